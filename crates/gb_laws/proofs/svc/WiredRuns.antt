@@ -12,9 +12,9 @@ use Rattle.gb_base.specs.declared.refusal.Refusal.{Refusal}
 use Rattle.gb_formats.specs.Module.{Module, module_of_kind, module_raw}
 use Rattle.gb_formats.specs.{SvcRecords.SvcAsk, ValidEvents.IsIntf}
 use Rattle.gb_machine.proofs.{Conditions.free as unmet, Opened.machine_opened}
-use Rattle.gb_machine.specs.Modules.{is_plugged, is_plugged_at, plugged, unplugged}
+use Rattle.gb_machine.specs.Modules.{is_plugged, is_plugged_at, plugged, unplugged, interfaces_of}
 use Rattle.gb_machine.specs.Plugging.{boots, plugs, pulls, recalled, tells_inserted, tells_removed}
-use Rattle.gb_machine.specs.Plugging.{wired_numbers, with_plugged, with_pulled, with_told}
+use Rattle.gb_machine.specs.Plugging.{wired_numbers, with_plugged, with_pulled, with_told, parts_of}
 use Rattle.gb_machine.specs.Ports.{is_port, is_powered, level_in, level_of, port_of, powered}
 use Rattle.gb_machine.specs.Ports.{unpowered}
 use Rattle.gb_machine.specs.Runs.{IsMoment, Moment, after}
@@ -29,16 +29,28 @@ use Rattle.gb_invariants.proofs.{Lists.two-at_first, Numbers.in-changed, Outcome
 use Rattle.gb_invariants.proofs.{Outcomes.same-number, Selves.svc-no-module}
 use Rattle.gb_invariants.specs.Facts.{IsBefore}
 use Rattle.gb_laws.proofs.links.LinkRuns.{LinkedTo, linked-over, linked-throughout}
-use Rattle.gb_laws.proofs.marks.MarkPulls.{pulled-other, svc-asked, unwires-svc, wired-others}
+use Rattle.gb_laws.proofs.marks.MarkPulls.{svc-asked}
 use Rattle.gb_laws.proofs.marks.MarkTells.{AfterAsk, QueueIsAsked, after-ask}
 use Rattle.gb_laws.proofs.points.Points.{IsOfSvc, Law, upon}
 use Rattle.gb_laws.proofs.runs.Runs.{HoldsByMoments, Keeps, throughout}
 use Rattle.gb_laws.proofs.svc.WiredWell.{WiredFit, fit-bus, wired-kept}
 use Rattle.gb_laws.proofs.{basis.Basics.basis, marks.MarkFrame.asked-items}
 use Rattle.gb_laws.proofs.{marks.MarkMoments.refused-state}
-use Rattle.gb_laws.proofs.{marks.MarkPlugs.plugged-at, marks.MarkPlugs.plugged-other}
 use Rattle.gb_laws.proofs.{points.PointParts.resting}
 use Rattle.gb_laws.proofs.{steps.Steps.over-step}
+use Rattle.gb_laws.proofs.marks.PullParts.{pulled-other, pulls-each}
+use Rattle.gb_laws.proofs.marks.PlugParts.{plugged-at, plugged-other, all-plugged, in-parts}
+use Rattle.gb_laws.proofs.marks.PlugParts.{parts-differ, parts-free}
+use Rattle.gb_laws.proofs.marks.Wholes.{AreElsewhere, IsRange, range-of}
+use Rattle.gb_laws.proofs.steps.Ticking.{unwired-plugs}
+use Rattle.gb_invariants.proofs.Lists.{each-in}
+use Rattle.std.proofs.lemmas.List.{length-map}
+use Rattle.std.proofs.Common.{length}
+use Rattle.gb_machine.proofs.Conditions.{AreUnmet}
+use Rattle.gb_machine.specs.Refusals.{insert_conditions, is_taken}
+use Rattle.gb_machine.specs.Actions.{change, given}
+use Rattle.gb_machine.specs.Modules.{is_primary, part_at}
+use Rattle.gb_machine.specs.Plugging.{pulls_module, pulls_one}
 
 -- ---- the supervisory controller asks
 
@@ -46,11 +58,11 @@ fit-ask : {s t : State} (o : Option HostEvent) → AfterAsk s t o → WiredFit s
 fit-ask {s} o a h = fit-bus s a.wired a.modules a.ports h
 
 fit-tells : (ps : List Plugged) {s : State} → QueueIsAsked s.bus → WiredFit s
-    → WiredFit (each ps (λ p. tells_inserted p.intf) s).state
+    → WiredFit (each ps (λ p. tells_inserted p.primary p.count) s).state
 unfolding machine_opened
 fit-tells [] asked h = h
 fit-tells (p ∷ ps) asked h =
-    let a = after-ask (SvcAsk.ModuleInserted p.intf 1 0) asked in
+    let a = after-ask (SvcAsk.ModuleInserted p.primary p.count 0) asked in
     fit-tells ps a.asked (fit-ask _ a h)
 
 fit-boots : (s : State) → QueueIsAsked s.bus → WiredFit s → WiredFit (boots s).state
@@ -61,7 +73,7 @@ fit-boots s asked h =
     let s2 = (svc_asks (SvcAsk.Hello 1 1) s1).state in
     let a1 = after-ask (SvcAsk.ProtocolVersion 0 1) asked in
     let a2 = after-ask (SvcAsk.Hello 1 1) a1.asked in
-    fit-tells s.modules a2.asked (fit-ask _ a2 (fit-ask _ a1 (record {
+    fit-tells (filter is_primary s.modules) a2.asked (fit-ask _ a2 (fit-ask _ a1 (record {
       wired = h.wired;
       powered = h.powered;
       range = h.range;
@@ -71,64 +83,90 @@ fit-boots s asked h =
 
 -- ---- plugging
 
-fit-plugged : (i : ℕ) (x : Module) (s : State) → IsIntf i → is_plugged i s.modules ≡ false
-    → WiredFit s → WiredFit (with_plugged i x s)
-fit-plugged i x s valid free h = record {
+fit-plugged : (p : Plugged) (s : State) → IsIntf p.intf → is_plugged p.intf s.modules ≡ false
+    → WiredFit s → WiredFit (with_plugged p s)
+fit-plugged new s valid free h = record {
   wired = λ c live wired j p at. stays j (h.wired c live wired j p at);
-  powered = λ j e. by_power j (i == j) refl e;
-  range = λ j e. by_range j (i == j) refl e;
-  bound = λ j. by_bound j (i == j);
-  routed = λ c live wired j p at. by_route c live wired j p at (i == j) refl;
+  powered = λ j e. by_power j (new.intf == j) refl e;
+  range = λ j e. by_range j (new.intf == j) refl e;
+  bound = λ j. by_bound j (new.intf == j);
+  routed = λ c live wired j p at. by_route c live wired j p at (new.intf == j) refl;
 }
   where
     by_bound : (j : ℕ) (t : Bool)
-        → level_in (cond t (Some (record { intf = i; level = 0; device = None }))
+        → level_in (cond t (Some (record { intf = new.intf; level = 0; device = None }))
         (port_of j s.ports)) ≤ 6
     by_bound j true = omega arith
     by_bound j false = h.bound j
 
     by_route : (c : Connection) → IsIn c s.bus.connections → c.wired ≡ true → (j p : ℕ)
-        → c.peer ≡ end.Module j p → (t : Bool) → (i == j) ≡ t
-        → level_in (cond t (Some (record { intf = i; level = 0; device = None }))
+        → c.peer ≡ end.Module j p → (t : Bool) → (new.intf == j) ≡ t
+        → level_in (cond t (Some (record { intf = new.intf; level = 0; device = None }))
         (port_of j s.ports)) ≡ 6
     by_route c live wired j p at true e =
-        absurd (not-both (is_plugged i s.modules)
-        (ap (λ n. is_plugged n s.modules) (same-number i j e) ∙ h.wired c live wired j p at) free)
+        absurd (not-both (is_plugged new.intf s.modules)
+        (ap (λ n. is_plugged n s.modules) (same-number new.intf j e) ∙ h.wired c live wired j p at) free)
     by_route c live wired j p at false e = h.routed c live wired j p at
 
-    new : Plugged
-    new = record { intf = i; body = x }
-
-    stays : (j : ℕ) → is_plugged j s.modules ≡ true → is_plugged j (plugged i x s.modules) ≡ true
-    stays j e = by (i == j) refl
+    stays : (j : ℕ) → is_plugged j s.modules ≡ true → is_plugged j (plugged new s.modules) ≡ true
+    stays j e = by (new.intf == j) refl
       where
-        by : (t : Bool) → (i == j) ≡ t → is_plugged j (plugged i x s.modules) ≡ true
-        by true f = plugged-at j (record { intf = i; body = x }) s.modules f
-        by false f = plugged-other j (record { intf = i; body = x }) s.modules f ∙ e
+        by : (t : Bool) → (new.intf == j) ≡ t → is_plugged j (plugged new s.modules) ≡ true
+        by true f = plugged-at j new s.modules f
+        by false f = plugged-other j new s.modules f ∙ e
 
-    by_power : (j : ℕ) (t : Bool) → (i == j) ≡ t → is_powered j (powered i s.ports) ≡ true
-        → is_plugged j (plugged i x s.modules) ≡ true
-    by_power j true f e = plugged-at j (record { intf = i; body = x }) s.modules f
-    by_power j false f e = plugged-other j (record { intf = i; body = x }) s.modules f
+    by_power : (j : ℕ) (t : Bool) → (new.intf == j) ≡ t → is_powered j (powered new.intf s.ports) ≡ true
+        → is_plugged j (plugged new s.modules) ≡ true
+    by_power j true f e = plugged-at j new s.modules f
+    by_power j false f e = plugged-other j new s.modules f
         ∙ h.powered j (sym (ap (λ t. is_some
-        (cond t (Some (let p : Port = record { intf = i; level = 0; device = None } in p))
+        (cond t (Some (let p : Port = record { intf = new.intf; level = 0; device = None } in p))
         (find (is_port j) s.ports))) f) ∙ e)
 
-    by_range : (j : ℕ) (t : Bool) → (i == j) ≡ t → is_plugged j (plugged i x s.modules) ≡ true
+    by_range : (j : ℕ) (t : Bool) → (new.intf == j) ≡ t → is_plugged j (plugged new s.modules) ≡ true
         → IsIntf j
-    by_range j true f e = subst IsIntf (same-number i j f) valid
+    by_range j true f e = subst IsIntf (same-number new.intf j f) valid
     by_range j false f e =
-        h.range j (sym (plugged-other j (record { intf = i; body = x }) s.modules f) ∙ e)
+        h.range j (sym (plugged-other j new s.modules f) ∙ e)
 
-fit-plugs : (i : ℕ) (x : Module) {s : State} → IsIntf i → is_plugged i s.modules ≡ false
-    → QueueIsAsked s.bus → WiredFit s → WiredFit (plugs i x s).state
+-- parts one after another
+fit-plugged_all : (ps : List Plugged) (s : State) → ((p : Plugged) → IsIn p ps → IsIntf p.intf)
+    → EachTwo AreElsewhere ps → ((p : Plugged) → IsIn p ps → is_plugged p.intf s.modules ≡ false)
+    → WiredFit s → WiredFit (each ps (λ p. change (with_plugged p)) s).state
 unfolding machine_opened
-fit-plugs i x {s} valid free asked h = by s.booted
+fit-plugged_all [] s valid apart free h = h
+fit-plugged_all (p ∷ ps) s valid apart free h =
+    fit-plugged_all ps (with_plugged p s) (λ q i. valid q (inr i)) apart.1
+    (λ q i. plugged-other q.intf p s.modules (other q i (p.intf == q.intf) refl) ∙ free q (inr i))
+    (fit-plugged p s (valid p (inl refl)) (free p (inl refl)) h)
   where
-    by : (t : Bool) → WiredFit (when t (tells_inserted i) (with_plugged i x s)).state
-    by true = fit-ask _ (after-ask (SvcAsk.ModuleInserted i 1 0) asked)
-        (fit-plugged i x s valid free h)
-    by false = fit-plugged i x s valid free h
+    other : (q : Plugged) → IsIn q ps → (t : Bool) → (p.intf == q.intf) ≡ t → t ≡ false
+    other q i false e = refl
+    other q i true e =
+        absurd (each-in (AreElsewhere p) ps q apart.0 i (same-number p.intf q.intf e))
+
+fit-plugs : (i : ℕ) (ms : List Module) {s : State} → IsRange i (length ms)
+    → is_taken i (length ms) s ≡ false → QueueIsAsked s.bus → WiredFit s
+    → WiredFit (plugs i ms s).state
+unfolding machine_opened
+fit-plugs i ms {s} range free asked h = by s.booted
+  where
+    w : State
+    w = (each (parts_of i ms) (λ p. change (with_plugged p)) s).state
+
+    fit : WiredFit (each (parts_of i ms) (λ p. change (with_plugged p)) s).state
+    fit = fit-plugged_all (parts_of i ms) s
+        (λ p k. let r = in-parts i i (length ms) ms p k in
+        (omega (arith, range.two, r.from), omega (arith, range.within, r.below)))
+        (parts-differ i i (length ms) ms) (parts-free i ms s.modules free) h
+
+    queue : QueueIsAsked (each (parts_of i ms) (λ p. change (with_plugged p)) s).state.bus
+    queue = subst (λ (t : State). QueueIsAsked t.bus) (sym (all-plugged (parts_of i ms) s)) asked
+
+    by : (t : Bool) → WiredFit (when t (tells_inserted i (length ms))
+        (each (parts_of i ms) (λ p. change (with_plugged p)) s).state).state
+    by true = fit-ask _ (after-ask (SvcAsk.ModuleInserted i (length ms) 0) queue) fit
+    by false = fit
 
 -- ---- pulling
 
@@ -234,11 +272,31 @@ fit-pulled i s rise h s1 is modules ports = record {
         (none-of (is_plugged_at i) s.modules)))
     by_range j false e f = h.range j (sym (pulled-other i j s.modules e) ∙ f)
 
+-- numbers rise still where connections are unwired
+unwired-rise : (ns : List ℕ) (s : State) → EachTwo IsBefore s.bus.connections
+    → EachTwo IsBefore (each ns unwires s).state.bus.connections
+unfolding machine_opened
+unwired-rise [] s rise = rise
+unwired-rise (n ∷ ns) s rise = unwired-rise ns (with_unwired n s)
+    (two-at_first IsBefore (has_number n)
+    (λ (x : Connection). record x { wired = false; to_ap = []; to_far = [] }) s.bus.connections
+    (λ x y r. r) (λ x y r. r) rise)
+
+-- interfaces one after another
+fit-each : (is : List ℕ) (s : State) → EachTwo IsBefore s.bus.connections → WiredFit s
+    → WiredFit (each is pulls_one s).state
+unfolding machine_opened
+fit-each [] s rise h = h
+fit-each (i ∷ is) s rise h =
+    let cut = unwired-plugs (wired_numbers i s.bus) s in
+    fit-each is (pulls_one i s).state (unwired-rise (wired_numbers i s.bus) s rise)
+    (fit-pulled i s rise h _ refl cut.0 cut.1)
+
 -- what is remembered of pulls is no matter here
-fit-recalled : (i n : ℕ) {s : State} → WiredFit s → WiredFit (recalled n i s)
-fit-recalled i n {s} h = by (is_some (request_of n s.bus))
+fit-recalled : (n : ℕ) (is : List ℕ) {s : State} → WiredFit s → WiredFit (recalled n is s)
+fit-recalled n is {s} h = by (is_some (request_of n s.bus))
   where
-    by : (t : Bool) → WiredFit (cond t (with_told n i s) s)
+    by : (t : Bool) → WiredFit (cond t (with_told n is s) s)
     by true = record {
       wired = h.wired;
       powered = h.powered;
@@ -251,24 +309,28 @@ fit-recalled i n {s} h = by (is_some (request_of n s.bus))
 fit-pulls : (i : ℕ) (told : List Entry) (s : State) → LinkedTo told s → QueueIsAsked s.bus
     → WiredFit s → WiredFit (pulls i s).state
 unfolding machine_opened
-fit-pulls i told s start asked h = by s.booted
+fit-pulls i told s start asked h = by (part_at i s.modules)
   where
-    s1 : State
-    s1 = (each (wired_numbers i s.bus) unwires s).state
+    module-fit : (p : Plugged) → WiredFit (pulls_module p s).state
+    module-fit p = by s.booted
+      where
+        fit : WiredFit (each (interfaces_of p) pulls_one s).state
+        fit = fit-each (interfaces_of p) s start.0.bus.numbers.rise h
 
-    cut : WiredFit (with_pulled i (each (wired_numbers i s.bus) unwires s).state)
-    cut = let c = unwires-svc (wired_numbers i s.bus) (wired-others i s start.1) in
-        fit-pulled i s start.0.bus.numbers.rise h _ refl c.modules c.ports
+        queue : QueueIsAsked (each (interfaces_of p) pulls_one s).state.bus
+        queue = svc-asked s (pulls-each (interfaces_of p) s
+            (λ c j on. (start.1.svc c j on).peer)).svc asked
 
-    queue : QueueIsAsked (with_pulled i (each (wired_numbers i s.bus) unwires s).state).bus
-    queue = svc-asked s (unwires-svc (wired_numbers i s.bus) (wired-others i s start.1)) asked
+        by : (t : Bool) → WiredFit (when t (tells_removed p.primary (interfaces_of p))
+            (each (interfaces_of p) pulls_one s).state).state
+        by true = fit-recalled
+            (next_number (each (interfaces_of p) pulls_one s).state.bus) (interfaces_of p)
+            (fit-ask _ (after-ask (SvcAsk.ModuleRemoved p.primary) queue) fit)
+        by false = fit
 
-    by : (t : Bool) → WiredFit (when t (tells_removed i)
-        (with_pulled i (each (wired_numbers i s.bus) unwires s).state)).state
-    by true = fit-recalled i (next_number (with_pulled i
-        (each (wired_numbers i s.bus) unwires s).state).bus)
-        (fit-ask _ (after-ask (SvcAsk.ModuleRemoved i) queue) cut)
-    by false = cut
+    by : (o : Option Plugged) → WiredFit (given o pulls_module s).state
+    by None = h
+    by (Some p) = module-fit p
 
 -- ---- each moment
 
@@ -298,17 +360,26 @@ module _ (m : Moment) (one : IsMoment m.event) (start : WiredTo m.told m.before)
           (ap (λ x. (step m.before x).state) is ∙ ap (λ o. (decided o e m.before).state) f))
           (done f)
 
+  plugged-fit : (i : ℕ) (ms : List Module) (manifest : List ℕ) → 2 ≤ i → 1 ≤ length ms
+      → AreUnmet (insert_conditions m.before i (length ms) manifest)
+      → WiredFit (plugs i ms m.before).state
+  plugged-fit i ms manifest low some met =
+      fit-plugs i ms (range-of i (length ms) low some met.0) met.1.0
+      (asked-items (resting m.told m.before) start.links.0) start.wired
+
   fit-kept : (e : Event) → m.event ≡ e → IsMoment e → WiredFit (after m)
   unfolding machine_opened
   fit-kept event.Boot is at = fit-asking event.Boot is
       (λ free. fit-boots m.before (asked-items (resting m.told m.before) start.links.0) start.wired)
-  fit-kept (event.Insert i kind) is at = fit-asking (event.Insert i kind) is
-      (λ free. fit-plugs i (module_of_kind kind) at (unmet m.before (event.Insert i kind) free).0
-      (asked-items (resting m.told m.before) start.links.0) start.wired)
+  fit-kept (event.Insert i kinds) is at = fit-asking (event.Insert i kinds) is (λ free.
+      let many : length (map module_of_kind kinds) ≡ length kinds =
+      length-map kinds module_of_kind in
+      plugged-fit i (map module_of_kind kinds) [] at.0.0 (omega (arith, many, at.1.0))
+      (subst (λ n. AreUnmet (insert_conditions m.before i n [])) (sym many)
+      (unmet m.before (event.Insert i kinds) free)))
   fit-kept (event.InsertRaw i manifest) is at = fit-asking (event.InsertRaw i manifest) is
-      (λ free. fit-plugs i (module_raw manifest) at
-      (unmet m.before (event.InsertRaw i manifest) free).0
-      (asked-items (resting m.told m.before) start.links.0) start.wired)
+      (λ free. plugged-fit i (module_raw manifest ∷ []) manifest at.0 (omega arith)
+      (unmet m.before (event.InsertRaw i manifest) free))
   fit-kept (event.Pull i) is at = fit-asking (event.Pull i) is
       (λ free. fit-pulls i m.told m.before start.links
       (asked-items (resting m.told m.before) start.links.0) start.wired)

@@ -53,12 +53,12 @@ short-at i ms x e h = by (find (is_plugged_at i) ms) refl e
     by (Some p) f g = subst (λ (y : Module). length y.manifest ≤ longest_manifest)
         (same-some p.body x g) (h p (found-in (is_plugged_at i) ms p f).0)
 
--- a module more
-pub short-plugged : (i : ℕ) (x : Module) (ms : List Plugged) → AreShort ms
-    → length x.manifest ≤ longest_manifest → AreShort (plugged i x ms)
-short-plugged i x ms h fits p k = ⊎_elim
+-- a part more
+pub short-plugged : (x : Plugged) (ms : List Plugged) → AreShort ms
+    → length x.body.manifest ≤ longest_manifest → AreShort (plugged x ms)
+short-plugged x ms h fits p k = ⊎_elim
     (λ e. subst (λ (q : Plugged). length q.body.manifest ≤ longest_manifest) (sym e) fits)
-    (λ old. h p old) (in-ordered plugged_before p (record { intf = i; body = x }) ms k)
+    (λ old. h p old) (in-ordered plugged_before p x ms k)
 
 -- ---- what is inserted
 
@@ -74,4 +74,4 @@ pub raw-short : (s : State) (i : ℕ) (manifest : List ℕ)
     → refusal s (event.InsertRaw i manifest) ≡ None
     → length (module_raw manifest).manifest ≤ longest_manifest
 raw-short s i manifest allowed =
-    let fits = (free s (event.InsertRaw i manifest) allowed).1.0 in grind (arith, nat_tests)
+    let fits = (free s (event.InsertRaw i manifest) allowed).1.1.0 in grind (arith, nat_tests)
