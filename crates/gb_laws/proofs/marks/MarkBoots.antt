@@ -1,5 +1,6 @@
 -- Insertions and removals come in turn where the supervisory controller starts.
-use Rattle.std.proofs.Common.{Bool, List, None, Option, Some, ap, append-nil, cond, false, inl, inr, refl, subst, sym, true, ℕ, [], ◌++◌, ◌+◌, ◌<◌, ◌∙◌, ◌∷◌, ◌≡◌, ◌≤◌}
+use Rattle.std.proofs.Common.{Bool, List, None, Option, Some, ap, append-nil, cond, false, inl, inr}
+use Rattle.std.proofs.Common.{refl, subst, sym, true, ℕ, [], ◌++◌, ◌+◌, ◌<◌, ◌∙◌, ◌∷◌, ◌≡◌, ◌≤◌}
 use Rattle.std.specs.List.{filter}
 use Rattle.std.specs.Prelude.{option_map}
 use Rattle.gb_base.specs.declared.host_event.HostEvent.TheVariants as host_event

@@ -14,30 +14,27 @@ use Rattle.gb_machine.specs.Sending.{Draft, drawn, put, queued, sent}
 use Rattle.gb_machine.specs.{Delivery.popped, Incoming.Incoming, Incoming.reply_item}
 use Rattle.gb_machine.specs.{Members.EachTwo, Members.IsIn, Runs.Moment}
 use Rattle.gb_machine.specs.{Serving.Answer, SvcQueues.items_in, SvcQueues.svc_items}
-use Rattle.gb_invariants.proofs.BusChanges.{KeepsRequests, becomes, found-after, number_of}
+use Rattle.gb_invariants.proofs.BusChanges.{BusChange, KeepsRequests, becomes, bus_after}
+use Rattle.gb_invariants.proofs.BusChanges.{found-after, number_of}
 use Rattle.gb_invariants.proofs.{Awaiting.sent-request, Labels.asked_on, Labels.asked_on-number}
 use Rattle.gb_invariants.proofs.{Numbers.found-number, Selves.drawn-queue, Selves.module-no-svc}
-use Rattle.gb_laws.proofs.marks.Marks.{AreAsked, item_mark, marks, marks-first, AreInserted}
-use Rattle.gb_laws.proofs.marks.Marks.{marks-more}
-use Rattle.gb_laws.proofs.marks.Marks.{marks-unmarked, marks_of}
+use Rattle.gb_invariants.proofs.Awaiting.{sent-made}
+use Rattle.gb_invariants.proofs.Selves.{ap-no-far}
+use Rattle.gb_laws.proofs.marks.Marks.{AreAsked, AreInserted, item_mark, marks, marks-first}
+use Rattle.gb_laws.proofs.marks.Marks.{marks-more, marks-unmarked, marks_of}
 use Rattle.gb_laws.proofs.points.Points.{Change, IsAskedBy, IsElse, IsOfSvc, acts_asked, asks}
-use Rattle.gb_laws.proofs.points.Points.{by_far}
-use Rattle.gb_laws.proofs.points.Points.{by_host, by_module, by_svc, changed, injects, names}
-use Rattle.gb_laws.proofs.points.Points.{others}
-use Rattle.gb_laws.proofs.points.Points.{recalls, replies, takes, unwires}
+use Rattle.gb_laws.proofs.points.Points.{by_far, by_host, by_module, by_svc, changed, injects}
+use Rattle.gb_laws.proofs.points.Points.{names, others, recalls, replies, takes, unwires}
 use Rattle.gb_laws.proofs.svc.SvcThere.{not-one, svc-new, svc-stays}
 use Rattle.gb_laws.proofs.{points.Awaited.awaited-rest, points.ChangeBuses.bus_change}
 use Rattle.gb_laws.proofs.{points.ChangeBuses.keeps-requests, links.LinkActs.awaited-plugs}
-use Rattle.gb_laws.proofs.{links.LinkFrom.Linked, links.LinkKept.InsertsAbsent}
+use Rattle.gb_laws.proofs.{links.LinkFrom.Linked}
 use Rattle.gb_laws.proofs.{links.LinkKept.LinkedAt}
 use Rattle.gb_laws.proofs.{marks.MarkKnown.KnownAt, marks.MarkKnown.known-kept}
 use Rattle.gb_laws.proofs.{points.PointParts.Basis}
 use Rattle.gb_laws.proofs.{points.PointParts.Point}
-use Rattle.gb_laws.proofs.marks.Wholes.{AreElsewhere, plugged_at, AreWhole}
-use Rattle.gb_invariants.proofs.BusChanges.{BusChange, bus_after}
+use Rattle.gb_laws.proofs.marks.Wholes.{AreElsewhere, AreWhole, plugged_at}
 use Rattle.gb_laws.proofs.points.ChangeBuses.{by-bus}
-use Rattle.gb_invariants.proofs.Awaiting.{sent-made}
-use Rattle.gb_invariants.proofs.Selves.{ap-no-far}
 
 -- the bus once the item of an event is taken
 abbrev pub popped_at : Option Place → Bus → Bus

@@ -1,21 +1,20 @@
 -- Which interfaces are known, each with its module, where the application processor does something.
-use Rattle.std.proofs.Common.{Bool, List, None, Option, Some, ap, cond, false, inl, inr, refl, subst, sym, true, ℕ, ⊎_elim, ◌++◌, ◌∙◌, ◌≡◌, ◌⊎◌}
-use Rattle.std.specs.Prelude.{◌==◌}
+use Rattle.std.proofs.Common.{Bool, List, None, Option, Some, ap, cond, false, inl, inr, refl}
+use Rattle.std.proofs.Common.{subst, sym, true, ℕ, ⊎_elim, ◌∙◌, ◌≡◌, ◌⊎◌}
 use Rattle.gb_base.specs.declared.peers.Interface.{Interface}
 use Rattle.gb_base.specs.declared.peers.Link.{Link}
 use Rattle.gb_base.specs.declared.steps.Purpose.{Purpose}
 use Rattle.gb_base.specs.declared.steps.SequenceStep.{SequenceStep}
+use Rattle.gb_base.specs.declared.entry.IntfStage.TheVariants as stage
 use Rattle.gb_machine.specs.Host.{Host, intf_before, is_intf, new_interface, staged, with_interface}
 use Rattle.gb_machine.specs.Host.{with_link}
-use Rattle.gb_base.specs.declared.entry.IntfStage.TheVariants as stage
 use Rattle.gb_machine.specs.Sequences.{enumerated}
-use Rattle.gb_machine.specs.Turns.{Turn, turn}
 use Rattle.gb_machine.specs.{HostActs.made_for, HostActs.with_awaited, Host.link_at, Members.IsIn}
 use Rattle.gb_machine.specs.{Failures.unsent, HostServing.host_serves, SequenceSteps.is_enumeration}
 use Rattle.gb_machine.specs.{SequenceSteps.is_for_connection, State.State, Waits.awaits}
 use Rattle.gb_machine.specs.{Waits.waiting}
-use Rattle.gb_invariants.proofs.HostChanges.{HostChange, HostEnd, IsFor, IsLast, Notice, Occasion}
-use Rattle.gb_invariants.proofs.HostChanges.{Finds, TurnLaw, acts_by, at_insertion, at_notice, at_unsent}
+use Rattle.gb_invariants.proofs.HostChanges.{Finds, HostChange, HostEnd, IsFor, IsLast, Notice}
+use Rattle.gb_invariants.proofs.HostChanges.{Occasion, TurnLaw, at_insertion, at_notice, at_unsent}
 use Rattle.gb_invariants.proofs.HostChanges.{end_of, host_after, turn_of}
 use Rattle.gb_invariants.proofs.Lists.{in-at_first, in-without}
 use Rattle.gb_invariants.proofs.{Found.in-ordered, OverTurns.over-turn, OverTurns.over-unsent}

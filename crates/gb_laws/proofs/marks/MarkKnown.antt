@@ -1,13 +1,12 @@
 -- Which interfaces are known stays within a step, each with its module, but for those whose
 -- insertion is handled.
-use Rattle.std.proofs.Common.{None, Option, Some, ap, inl, inr, refl, subst, sym, ℕ, ⊎_elim, ◌+◌, ◌<◌, ◌∙◌, ◌≡◌, ◌≤◌, ◌⊎◌}
+use Rattle.std.proofs.Common.{inr, subst, ℕ, ⊎_elim, ◌⊎◌}
 use Rattle.gb_base.specs.declared.host_event.HostEvent.TheVariants as host_event
 use Rattle.gb_base.specs.declared.peers.Interface.{Interface}
 use Rattle.gb_machine.specs.{Lists.span, Members.IsIn, Runs.Moment}
-use Rattle.gb_invariants.proofs.HostChanges.{at_insertion}
 use Rattle.gb_laws.proofs.marks.MarkHosts.{IsNamed, NamesFewer, awaited-named, served-named}
 use Rattle.gb_laws.proofs.marks.MarkHosts.{turn-named, unsent-named}
-use Rattle.gb_laws.proofs.points.PointParts.{IsArriving, IsCaused, IsNoticed, Point}
+use Rattle.gb_laws.proofs.points.PointParts.{IsCaused, IsNoticed, Point}
 use Rattle.gb_laws.proofs.points.Points.{Change, acts_asked, acts_failed, changed, serves, turns}
 
 -- at a moment an interface is inserted, with the others of its module

@@ -1,11 +1,10 @@
 -- Insertions and removals come in turn: what a moment at which the supervisory controller doesn't
 -- ask makes of the marks.
-use Rattle.std.proofs.Common.{Bool, List, None, Option, Some, ap, false, inl, refl, subst, sym, inr}
-use Rattle.std.proofs.Common.{true, ℕ, ⊎_elim, [], ◌++◌, ◌∙◌, ◌∷◌, ◌≡◌, ◌⊎◌}
+use Rattle.std.proofs.Common.{List, None, Option, Some, ap, false, inl, inr, refl, subst, sym, true}
+use Rattle.std.proofs.Common.{ℕ, ⊎_elim, [], ◌++◌, ◌∙◌, ◌∷◌, ◌≡◌, ◌⊎◌}
 use Rattle.std.specs.Prelude.{is_some, option_map, ◌==◌}
 use Rattle.gb_base.specs.declared.end.End.{End}
 use Rattle.gb_base.specs.declared.event.Event.TheVariants as event
-use Rattle.gb_base.specs.declared.host_event.HostEvent.TheVariants as host_event
 use Rattle.gb_base.specs.declared.peers.{Interface.Interface, Link.Link}
 use Rattle.gb_base.specs.declared.refusal.Refusal.{Refusal}
 use Rattle.gb_machine.proofs.{Conditions.waits, Opened.machine_opened}
@@ -14,16 +13,18 @@ use Rattle.gb_machine.specs.Host.{Host, interface_of, is_intf}
 use Rattle.gb_machine.specs.Runs.{IsMoment, Moment, after}
 use Rattle.gb_machine.specs.{Delivery.popped, Events.decided, Lists.first, Members.IsIn}
 use Rattle.gb_machine.specs.{Refusals.refusal, State.State}
+use Rattle.gb_machine.specs.Members.{EachTwo}
 use Rattle.gb_invariants.proofs.{Awaiting.none-some, Awaiting.not-both, Found.find-none}
 use Rattle.gb_invariants.proofs.{Lists.found-in}
 use Rattle.gb_invariants.proofs.{Outcomes.is-same, Outcomes.same-number}
+use Rattle.gb_invariants.proofs.Awaiting.{same-some}
+use Rattle.gb_invariants.proofs.Lists.{one-by}
 use Rattle.gb_laws.proofs.marks.MarkFrame.{FrameAt, frame-kept, popped_at, taken_bus}
-use Rattle.gb_laws.proofs.marks.MarkTakes.{Taken, delivery-taken, insertion, none_taken, removal}
+use Rattle.gb_laws.proofs.marks.MarkTakes.{IsUninserted, Taken, delivery-taken, insertion}
+use Rattle.gb_laws.proofs.marks.MarkTakes.{none_taken, removal}
 use Rattle.gb_laws.proofs.marks.Marks.{ArePulled, Mark, MarksFit, Reads, came, known-none}
-use Rattle.gb_laws.proofs.marks.Marks.{known-there, known_at, marks, pulled-more}
-use Rattle.gb_laws.proofs.marks.Marks.{reads-less}
-use Rattle.gb_laws.proofs.marks.Marks.{went}
-use Rattle.gb_laws.proofs.points.PointParts.{Basis, IsNoticed, Point, resting}
+use Rattle.gb_laws.proofs.marks.Marks.{known-there, known_at, marks, pulled-more, reads-less, went}
+use Rattle.gb_laws.proofs.points.PointParts.{Basis, Point, resting}
 use Rattle.gb_laws.proofs.points.Points.{IsOfSvc, Law, takes, upon}
 use Rattle.gb_laws.proofs.{basis.Basics.basis-kept, links.LinkFrom.Linked}
 use Rattle.gb_laws.proofs.{links.LinkKept.InsertsAbsent}
@@ -35,10 +36,6 @@ use Rattle.gb_laws.proofs.marks.Wholes.{plugged_at}
 use Rattle.gb_laws.proofs.links.Links.{AreOther}
 use Rattle.gb_laws.proofs.marks.MarkKnown.{IsInserted, WasKnown}
 use Rattle.gb_laws.proofs.marks.MarkHosts.{IsNamed, named-one}
-use Rattle.gb_laws.proofs.marks.MarkTakes.{IsUninserted}
-use Rattle.gb_invariants.proofs.Awaiting.{same-some}
-use Rattle.gb_machine.specs.Members.{EachTwo}
-use Rattle.gb_invariants.proofs.Lists.{one-by}
 
 -- ---- known interfaces
 

@@ -20,7 +20,7 @@ use Rattle.gb_machine.specs.HostServing.{HostServed, credited, host_refuses, int
 use Rattle.gb_machine.specs.HostServing.{notified_by, served_on, serves_gpio, serves_svc}
 use Rattle.gb_machine.specs.HostServing.{serves_uart, uart_notified_by}
 use Rattle.gb_machine.specs.Incoming.{Incoming, incoming, request_in}
-use Rattle.gb_machine.specs.SvcQueues.{HandlesRemoval, inserts, is_told, items_in, svc_items}
+use Rattle.gb_machine.specs.SvcQueues.{HandlesRemoval, is_told, items_in, svc_items}
 use Rattle.gb_machine.specs.{Lists.behind_first, Lists.first, Runs.Moment, State.State}
 use Rattle.gb_invariants.proofs.Awaiting.{none-some, not-both, same-some}
 use Rattle.gb_invariants.proofs.{Found.find-none, ItemChanges.first-in, Numbers.found-by_number}

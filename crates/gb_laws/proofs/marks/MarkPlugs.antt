@@ -1,6 +1,7 @@
 -- Insertions and removals come in turn where a module is plugged.
-use Rattle.std.proofs.Common.{Bool, List, None, Option, Some, ap, append-nil, false, length, refl, subst, sym, true, ℕ, [], ◌++◌, ◌+◌, ◌<◌, ◌∙◌, ◌∷◌, ◌≡◌, ◌≤◌, ⊎_elim, cond}
-use Rattle.std.specs.List.{list_any}
+use Rattle.std.proofs.Common.{Bool, List, None, Option, Some, ap, append-nil, cond, false, length}
+use Rattle.std.proofs.Common.{refl, subst, sym, true, ℕ, ⊎_elim, [], ◌++◌, ◌+◌, ◌<◌, ◌∙◌, ◌∷◌, ◌≡◌}
+use Rattle.std.proofs.Common.{◌≤◌}
 use Rattle.gb_base.specs.declared.host_event.HostEvent.TheVariants as host_event
 use Rattle.gb_base.specs.declared.host_event.HostEvent.{HostEvent}
 use Rattle.gb_formats.specs.SvcRecords.{SvcAsk, svc_ask_kind, svc_ask_payload}
@@ -9,15 +10,15 @@ use Rattle.gb_machine.proofs.Opened.{machine_opened}
 use Rattle.gb_machine.specs.Plugging.{parts_of, plugs, tells_inserted}
 use Rattle.gb_machine.specs.State.{Past, State}
 use Rattle.gb_machine.specs.{Actions.when, Bus.next_number, Members.EachTwo}
-use Rattle.gb_machine.specs.{Lists.span, Modules.is_plugged, Refusals.is_taken, SvcQueues.is_told}
+use Rattle.gb_machine.specs.{Lists.span, Modules.is_plugged, SvcQueues.is_told}
 use Rattle.gb_invariants.proofs.{Awaiting.not-both, Awaiting.same-some, Found.none-any}
 use Rattle.gb_laws.proofs.marks.MarkTells.{AfterAsk, MarksAfter, QueueIsAsked, after-ask}
 use Rattle.gb_laws.proofs.marks.MarkTells.{tells-inserted, told, untold}
-use Rattle.gb_laws.proofs.marks.Marks.{AreInserted, ArePulled, Mark, MarksFit, Reads, came, known_at}
-use Rattle.gb_laws.proofs.marks.Marks.{mark_in, marks, notice_of, pulled-more, reads-plugged}
-use Rattle.gb_laws.proofs.marks.Marks.{reads-told}
-use Rattle.gb_laws.proofs.marks.PlugParts.{all-plugged, now, now-differ, now-other, now-there}
-use Rattle.gb_laws.proofs.marks.PlugParts.{now-whole, powered_all}
+use Rattle.gb_laws.proofs.marks.Marks.{AreInserted, ArePulled, Mark, MarksFit, Reads, came}
+use Rattle.gb_laws.proofs.marks.Marks.{known_at, mark_in, marks, notice_of, pulled-more}
+use Rattle.gb_laws.proofs.marks.Marks.{reads-plugged, reads-told}
+use Rattle.gb_laws.proofs.marks.PlugParts.{CanPlug, all-plugged, now, now-differ, now-other}
+use Rattle.gb_laws.proofs.marks.PlugParts.{now-there, now-whole, powered_all}
 use Rattle.gb_laws.proofs.marks.Wholes.{AreElsewhere, AreWhole, IsRange, is_within, plugged-none}
 use Rattle.gb_laws.proofs.marks.Wholes.{plugged_at, span-in, true-within, within-true}
 
@@ -76,12 +77,12 @@ told-range p count range q many e =
 
 -- ---- plugging
 
-module _ (i : ℕ) (ms : List Module) (s : State) (range : IsRange i (length ms))
-    (free : is_taken i (length ms) s ≡ false) (start : MarksFit s) where
+module _ (i : ℕ) (ms : List Module) (s : State) (can : CanPlug i ms s.modules)
+    (start : MarksFit s) where
   -- the state once it is plugged
   abbrev with_it : State
   with_it = record s {
-    modules = now i ms s.modules range free start.differ;
+    modules = now i ms s.modules can start.differ;
     ports = powered_all (parts_of i ms) s.ports;
   }
 
@@ -89,7 +90,7 @@ module _ (i : ℕ) (ms : List Module) (s : State) (range : IsRange i (length ms)
       → Reads (known_at j s.host) (marks j s.past.pulled s.bus) None
   none-there j from below = subst (Reads (known_at j s.host) (marks j s.past.pulled s.bus))
       (plugged-none j s.modules
-      (none-any (λ k. is_plugged k s.modules) (span i (length ms)) j free
+      (none-any (λ k. is_plugged k s.modules) (span i (length ms)) j can.free
       (span-in j i (length ms) from below))) (start.reads j)
 
   plug-reads : (j : ℕ) → Reads (known_at j s.host) (marks j s.past.pulled s.bus)
@@ -103,7 +104,7 @@ module _ (i : ℕ) (ms : List Module) (s : State) (range : IsRange i (length ms)
           reads-plugged (known_at j s.host) (marks j s.past.pulled s.bus)
           (plugged_at j with_it.modules) (none-there j w.0 w.1)
       by false e = subst (Reads (known_at j s.host) (marks j s.past.pulled s.bus))
-          (sym (now-other i ms s.modules range free start.differ j
+          (sym (now-other i ms s.modules can start.differ j
           (λ from below. not-both (is_within i (length ms) j)
           (true-within i (length ms) j from below) e))) (start.reads j)
 
@@ -115,11 +116,11 @@ module _ (i : ℕ) (ms : List Module) (s : State) (range : IsRange i (length ms)
         (plugged_at j t.modules) a (ap (plugged_at j) a.modules) (reads a.marks_after j);
     unstarted = λ e. absurd (not-both t.booted (a.started ∙ booted) e);
     differ = subst (EachTwo AreElsewhere) (sym a.modules)
-        (now-differ i ms s.modules range free start.differ);
+        (now-differ i ms s.modules can start.differ);
     pulled = pulled-onto with_it a start.pulled;
     whole = subst AreWhole (sym a.modules)
-        (now-whole i ms s.modules range free start.differ start.whole);
-    told = inserted-onto with_it a (told-range i (length ms) range) start.told;
+        (now-whole i ms s.modules can start.differ start.whole);
+    told = inserted-onto with_it a (told-range i (length ms) can.range) start.told;
   }
     where
       reads : MarksAfter s.bus t.bus
@@ -135,7 +136,7 @@ module _ (i : ℕ) (ms : List Module) (s : State) (range : IsRange i (length ms)
           (e j s.past.pulled ∙ ap (λ o. marks j s.past.pulled s.bus
           ++ mark_in j (is_told (next_number s.bus) j s.past.pulled) o)
           (tells-inserted i (length ms)))
-          (plug-reads j) (none-there j) (now-there i ms s.modules range free start.differ j)
+          (plug-reads j) (none-there j) (now-there i ms s.modules can start.differ j)
 
   pub plug-kept : QueueIsAsked s.bus → MarksFit (plugs i ms s).state
   unfolding machine_opened
@@ -149,8 +150,8 @@ module _ (i : ℕ) (ms : List Module) (s : State) (range : IsRange i (length ms)
       by false e = record {
         reads = plug-reads;
         unstarted = start.unstarted;
-        differ = now-differ i ms s.modules range free start.differ;
+        differ = now-differ i ms s.modules can start.differ;
         pulled = start.pulled;
-        whole = now-whole i ms s.modules range free start.differ start.whole;
+        whole = now-whole i ms s.modules can start.differ start.whole;
         told = start.told;
       }

@@ -1,13 +1,14 @@
 -- Insertions and removals come in turn where a module is pulled.
-use Rattle.std.proofs.Common.{Bool, List, None, Option, Some, ap, cond, false, map, refl, subst, sym, true, ℕ, [], ◌++◌, ◌∙◌, ◌∷◌, ◌≡◌}
-use Rattle.std.specs.List.{find, list_any}
+use Rattle.std.proofs.Common.{Bool, List, None, Option, Some, ap, cond, false, map, refl, subst}
+use Rattle.std.proofs.Common.{sym, true, ℕ, [], ◌++◌, ◌∙◌, ◌∷◌, ◌≡◌}
+use Rattle.std.specs.List.{list_any}
 use Rattle.std.specs.Prelude.{is_none, is_some, option_map, ◌==◌}
 use Rattle.gb_base.specs.declared.end.Side.TheVariants as side
 use Rattle.gb_base.specs.declared.host_event.HostEvent.TheVariants as host_event
 use Rattle.gb_base.specs.declared.peers.Interface.{Interface}
 use Rattle.gb_formats.specs.SvcRecords.{SvcAsk, svc_ask_kind, svc_ask_payload}
 use Rattle.gb_machine.proofs.Opened.{machine_opened}
-use Rattle.gb_machine.specs.Bus.{Ask, Bus, Item, Raw, RawReply, Reply, Request, connection_of, next_number, request_of}
+use Rattle.gb_machine.specs.Bus.{Ask, Bus, Item, Raw, RawReply, Reply, connection_of, next_number}
 use Rattle.gb_machine.specs.Members.{EachTwo, IsIn}
 use Rattle.gb_machine.specs.Modules.{interfaces_of, is_plugged_at, part_at}
 use Rattle.gb_machine.specs.Plugging.{pulls, pulls_module, pulls_one, tells_removed, with_told}
@@ -25,14 +26,12 @@ use Rattle.gb_laws.proofs.marks.MarkPlugs.{inserted-onto}
 use Rattle.gb_laws.proofs.marks.MarkTells.{AfterAsk, IsToldThen, QueueIsAsked, after-ask, ask-told}
 use Rattle.gb_laws.proofs.marks.MarkTells.{tells-removed}
 use Rattle.gb_laws.proofs.marks.Marks.{AreInserted, ArePulled, IsRemoval, MarksFit, Reads}
-use Rattle.gb_laws.proofs.marks.Marks.{item_mark}
-use Rattle.gb_laws.proofs.marks.Marks.{known_at, mark_in, marks, marks-recalled, marks_of}
-use Rattle.gb_laws.proofs.marks.Marks.{next-none, notice_of, pulled-more, reads-other}
+use Rattle.gb_laws.proofs.marks.Marks.{item_mark, known_at, mark_in, marks, marks-recalled}
+use Rattle.gb_laws.proofs.marks.Marks.{marks_of, next-none, notice_of, pulled-more, reads-other}
 use Rattle.gb_laws.proofs.marks.Marks.{reads-removed, request_mark, told-new, told-others}
 use Rattle.gb_laws.proofs.marks.Marks.{untold-yet, went}
-use Rattle.gb_laws.proofs.marks.PullParts.{OneIsSvc, SameSvc, left-at, left-differ, left-other}
-use Rattle.gb_laws.proofs.marks.PullParts.{left-whole, pulled-only, pulled-there, pulls-each}
-use Rattle.gb_laws.proofs.marks.PullParts.{unplugged_all}
+use Rattle.gb_laws.proofs.marks.PullParts.{OneIsSvc, SameSvc, left-differ, left-other, left-whole}
+use Rattle.gb_laws.proofs.marks.PullParts.{pulled-only, pulled-there, pulls-each, unplugged_all}
 use Rattle.gb_laws.proofs.marks.Wholes.{AreElsewhere, AreWhole, plugged_at}
 use Rattle.gb_laws.proofs.{svc.SvcThere.There}
 
@@ -72,9 +71,9 @@ record IsAway (p : Plugged) (s t : State) : Type 0 where
   asked : QueueIsAsked t.bus
   told : AreInserted t.bus
 
--- the pulls that request n tells
-abbrev told_by : ℕ → Plugged → List (ℕ × ℕ)
-told_by n p = map (λ i. (n, i)) (interfaces_of p)
+-- the pulls that the next request tells
+abbrev told_by : State → Plugged → List (ℕ × ℕ)
+told_by u p = map (λ i. (next_number u.bus, i)) (interfaces_of p)
 
 module _ (p : Plugged) (s : State) (here : IsIn p s.modules) (start : MarksFit s) where
   -- what stays plugged
@@ -116,9 +115,9 @@ module _ (p : Plugged) (s : State) (here : IsIn p s.modules) (start : MarksFit s
       → IsToldThen (SvcAsk.ModuleRemoved p.primary) u t → s.booted ≡ true
       → MarksFit (with_told (next_number u.bus) (interfaces_of p) t)
   told-kept u t away a told booted = record {
-    reads = λ j. subst (λ h. Reads (known_at j h) (marks j (t.past.pulled ++ told_by (next_number u.bus) p) t.bus)
+    reads = λ j. subst (λ h. Reads (known_at j h) (marks j (t.past.pulled ++ told_by u p) t.bus)
         (plugged_at j t.modules)) (sym (a.host ∙ away.host))
-        (subst (λ ms. Reads (known_at j s.host) (marks j (t.past.pulled ++ told_by (next_number u.bus) p) t.bus)
+        (subst (λ ms. Reads (known_at j s.host) (marks j (t.past.pulled ++ told_by u p) t.bus)
         (plugged_at j ms)) (sym (a.modules ∙ away.modules))
         (subst (λ ms. Reads (known_at j s.host) ms
         (plugged_at j (unplugged_all (interfaces_of p) s.modules)))
@@ -145,16 +144,16 @@ module _ (p : Plugged) (s : State) (here : IsIn p s.modules) (start : MarksFit s
       untold j = untold-yet (next_number u.bus) j s.past.pulled u.bus
           (away-pulled u away) (next-none u.bus)
 
-      marked : (j : ℕ) → marks j (t.past.pulled ++ told_by (next_number u.bus) p) t.bus
+      marked : (j : ℕ) → marks j (t.past.pulled ++ told_by u p) t.bus
           ≡ marks j s.past.pulled s.bus
           ++ went p.primary (list_any (λ i. i == j) (interfaces_of p)) ∷ []
       marked j =
-          ap (λ ps. marks j (ps ++ told_by (next_number u.bus) p) t.bus) past
-          ∙ told.marks_after j (s.past.pulled ++ told_by (next_number u.bus) p)
-          ∙ ap (λ o. marks j (s.past.pulled ++ told_by (next_number u.bus) p) u.bus ++ mark_in j
-          (is_told (next_number u.bus) j (s.past.pulled ++ told_by (next_number u.bus) p)) o)
+          ap (λ ps. marks j (ps ++ told_by u p) t.bus) past
+          ∙ told.marks_after j (s.past.pulled ++ told_by u p)
+          ∙ ap (λ o. marks j (s.past.pulled ++ told_by u p) u.bus ++ mark_in j
+          (is_told (next_number u.bus) j (s.past.pulled ++ told_by u p)) o)
           (tells-removed p.primary)
-          ∙ ap (λ own. marks j (s.past.pulled ++ told_by (next_number u.bus) p) u.bus ++ went p.primary own ∷ [])
+          ∙ ap (λ own. marks j (s.past.pulled ++ told_by u p) u.bus ++ went p.primary own ∷ [])
           (told-new (next_number u.bus) (interfaces_of p) j s.past.pulled (untold j))
           ∙ ap (λ ms. ms ++ went p.primary (list_any (λ i. i == j) (interfaces_of p)) ∷ [])
           (marks-recalled (next_number u.bus) (interfaces_of p) j s.past.pulled u.bus
@@ -177,7 +176,7 @@ module _ (p : Plugged) (s : State) (here : IsIn p s.modules) (start : MarksFit s
           (pulled-only s.modules start.differ start.whole p here j k) e) (start.reads j))
 
       remembered : (k j : ℕ) (own : Bool) → (next_number u.bus == k) ≡ own
-          → is_told k j (t.past.pulled ++ told_by (next_number u.bus) p) ≡ true → IsRemoval k t.bus
+          → is_told k j (t.past.pulled ++ told_by u p) ≡ true → IsRemoval k t.bus
       remembered k j true f e = subst (λ x. IsRemoval x t.bus)
           (same-number (next_number u.bus) k f) (record {
             request = told.request;
@@ -190,7 +189,7 @@ module _ (p : Plugged) (s : State) (here : IsIn p s.modules) (start : MarksFit s
       remembered k j false f e =
           pulled-more s.past.pulled u.bus t.bus a.keeps (away-pulled u away) k j
           (sym (told-others (next_number u.bus) (interfaces_of p) k j s.past.pulled f)
-          ∙ ap (λ ps. is_told k j (ps ++ told_by (next_number u.bus) p)) (sym past) ∙ e)
+          ∙ ap (λ ps. is_told k j (ps ++ told_by u p)) (sym past) ∙ e)
 
   -- A module is pulled.
   module-kept : EachTwo IsBefore s.bus.connections → QueueIsAsked s.bus → OneIsSvc s.bus

@@ -18,17 +18,17 @@ use Rattle.gb_machine.specs.{Delivery.popped, Delivery.without_front, HostServin
 use Rattle.gb_machine.specs.{Lists.behind_first, Lists.first, Members.IsIn, Runs.Moment, Runs.after}
 use Rattle.gb_machine.specs.SvcQueues.{is_told, items_in}
 use Rattle.gb_invariants.proofs.{Awaiting.not-both, Awaiting.same-some, Found.find-changed}
-use Rattle.gb_invariants.proofs.{ItemChanges.first-in, Numbers.found-by_number, Outcomes.is-same}
+use Rattle.gb_invariants.proofs.{ItemChanges.first-in, Numbers.found-by_number}
 use Rattle.gb_invariants.proofs.{Outcomes.same-number, Selves.ap-no-far, Selves.front-self}
+use Rattle.gb_invariants.proofs.ModuleTurns.{in-span}
 use Rattle.gb_laws.proofs.marks.MarkNotices.{first-behind, notice-any, svc-front}
-use Rattle.gb_laws.proofs.marks.Marks.{Mark, came, item_mark, mark_in, marks, marks-first, marks_of}
-use Rattle.gb_laws.proofs.marks.Marks.{notice_of, request_mark, went, known_at, known-in}
+use Rattle.gb_laws.proofs.marks.Marks.{Mark, came, item_mark, known-in, known_at, mark_in, marks}
+use Rattle.gb_laws.proofs.marks.Marks.{marks-first, marks_of, notice_of, request_mark, went}
 use Rattle.gb_laws.proofs.points.PointParts.{Basis, IsNoticed, resting}
 use Rattle.gb_laws.proofs.{links.LinkFrom.Linked, points.Places.place-is}
 use Rattle.gb_laws.proofs.{links.Removing.removed-absent}
 use Rattle.gb_laws.proofs.marks.MarkKnown.{IsInserted}
 use Rattle.gb_laws.proofs.marks.Wholes.{is_within, true-within}
-use Rattle.gb_invariants.proofs.ModuleTurns.{in-span}
 
 -- no insertion of an interface is handled at a moment
 abbrev pub IsUninserted : Moment → ℕ → Type 0

@@ -1,6 +1,7 @@
 -- What becomes of the marks of an interface where the supervisory controller asks.
 use Rattle.std.proofs.Common.{Bool, List, None, Option, Some, ap, append-nil, arith, cond, false}
-use Rattle.std.proofs.Common.{refl, subst, sym, true, ℕ, ⊎_elim, [], ◌++◌, ◌+◌, ◌∙◌, ◌∷◌, ◌≡◌, inl}
+use Rattle.std.proofs.Common.{inl, inr, refl, subst, sym, true, ℕ, ⊎_elim, [], ◌++◌, ◌+◌, ◌∙◌, ◌∷◌}
+use Rattle.std.proofs.Common.{◌≡◌, ◌⊎◌}
 use Rattle.std.specs.Prelude.{option_map, ◌==◌}
 use Rattle.gb_base.specs.declared.end.Side.TheVariants as side
 use Rattle.gb_base.specs.declared.host_event.HostEvent.TheVariants as host_event
@@ -18,11 +19,9 @@ use Rattle.gb_invariants.proofs.BusChanges.{BusChange, KeepsRequests}
 use Rattle.gb_invariants.proofs.{Awaiting.sent-new, Awaiting.sent-request}
 use Rattle.gb_invariants.proofs.{Found.find-changed, Labels.asked_on, Labels.asked_on-number}
 use Rattle.gb_invariants.proofs.{Lists.in-pushed, Wires.WasWired, Wires.was-wired}
-use Rattle.gb_laws.proofs.marks.Marks.{AreAsked, item_mark, mark_in, marks, marks-append}
-use Rattle.gb_laws.proofs.marks.Marks.{marks-more}
-use Rattle.gb_laws.proofs.marks.Marks.{marks_of, notice_of, request_mark}
 use Rattle.gb_invariants.proofs.Awaiting.{sent-made}
-use Rattle.std.proofs.Common.{inr, ◌⊎◌}
+use Rattle.gb_laws.proofs.marks.Marks.{AreAsked, item_mark, mark_in, marks, marks-append}
+use Rattle.gb_laws.proofs.marks.Marks.{marks-more, marks_of, notice_of, request_mark}
 
 -- the requests that wait toward the application processor were made
 abbrev pub QueueIsAsked : Bus → Type 0

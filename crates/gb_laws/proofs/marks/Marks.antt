@@ -1,10 +1,9 @@
 -- The insertions and removals that the supervisory controller has told and that wait to be handled.
 use Rattle.std.proofs.Common.{Bool, List, None, Option, Some, ap, append-nil, append_assoc, arith}
 use Rattle.std.proofs.Common.{false, inl, inr, refl, sym, true, ℕ, [], ◌++◌, ◌∙◌, ◌∷◌, ◌≡◌, ◌≢◌}
-use Rattle.std.specs.List.{find}
-use Rattle.std.specs.List.{list_any}
-use Rattle.std.specs.Prelude.{if◌then◌else◌, is_some, map, option_map, ◌&&◌, ◌==◌, ◌||◌}
 use Rattle.std.proofs.lemmas.List.Folds.{list_any-append}
+use Rattle.std.specs.List.{find, list_any}
+use Rattle.std.specs.Prelude.{if◌then◌else◌, is_some, map, option_map, ◌&&◌, ◌==◌, ◌||◌}
 use Rattle.gb_base.specs.declared.end.Side.TheVariants as side
 use Rattle.gb_base.specs.declared.host_event.HostEvent.TheVariants as host_event
 use Rattle.gb_base.specs.declared.host_event.HostEvent.{HostEvent}
@@ -12,16 +11,16 @@ use Rattle.gb_base.specs.declared.peers.Interface.{Interface}
 use Rattle.gb_machine.specs.Bus.{Ask, Bus, Connection, Item, Raw, RawReply, Reply, Request}
 use Rattle.gb_machine.specs.Bus.{has_number, next_number, queue, request_of}
 use Rattle.gb_machine.proofs.Lists.{nth-past}
-use Rattle.gb_machine.specs.Host.{Host, first_host, interface_of, is_intf, interfaces_of}
+use Rattle.gb_machine.specs.Host.{Host, first_host, interface_of, interfaces_of}
 use Rattle.gb_machine.specs.{HostServing.serves_svc, Lists.at_first, Members.EachTwo}
-use Rattle.gb_machine.specs.{Members.IsIn, Modules.is_plugged, Modules.is_plugged_at}
-use Rattle.gb_machine.specs.{State.Plugged, State.State, SvcQueues.is_told, SvcQueues.items_in}
+use Rattle.gb_machine.specs.{Members.IsIn}
+use Rattle.gb_machine.specs.{State.State, SvcQueues.is_told, SvcQueues.items_in}
 use Rattle.gb_machine.specs.{SvcQueues.svc_items}
-use Rattle.gb_laws.proofs.marks.Wholes.{AreElsewhere, AreWhole, IsRange, is_within, plugged_at}
 use Rattle.gb_invariants.proofs.Awaiting.{none-some, not-both, same-some}
-use Rattle.gb_invariants.proofs.{BusChanges.KeepsRequests, Found.found-first, Lists.found-in}
+use Rattle.gb_invariants.proofs.{BusChanges.KeepsRequests, Found.found-first}
 use Rattle.gb_invariants.proofs.{Outcomes.is-same, Outcomes.same-number}
 use Rattle.gb_invariants.proofs.ModuleHosts.{in-module}
+use Rattle.gb_laws.proofs.marks.Wholes.{AreElsewhere, AreWhole, IsRange, is_within, plugged_at}
 
 -- what a request of the supervisory controller makes the application processor take notice of
 abbrev pub notice_of : ℕ → List ℕ → Option HostEvent

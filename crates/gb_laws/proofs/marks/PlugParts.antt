@@ -1,21 +1,30 @@
 -- What is plugged once a module is, part by part.
-use Rattle.std.proofs.Common.{Bool, List, None, Option, Some, ap, arith, cond, false, inl, inr, length, refl, subst, suc, sym, true, ℕ, ⊎_elim, [], ◌+◌, ◌<◌, ◌∙◌, ◌∷◌, ◌≡◌, ◌≢◌, ◌≤◌, ◌⊎◌}
+use Rattle.std.proofs.Common.{Bool, List, None, Option, Some, ap, arith, cond, false, inl, inr}
+use Rattle.std.proofs.Common.{length, map, refl, subst, sym, true, ℕ, ⊎_elim, [], ◌+◌, ◌<◌, ◌∙◌}
+use Rattle.std.proofs.Common.{◌∷◌, ◌≡◌, ◌≢◌, ◌≤◌, ◌⊎◌}
 use Rattle.std.proofs.lemmas.Bool.Decides.{nat_tests}
+use Rattle.std.proofs.lemmas.List.{length-map}
 use Rattle.std.specs.List.{find, list_any}
 use Rattle.std.specs.Prelude.{is_some, option_map, ◌==◌}
-use Rattle.gb_formats.specs.Module.{Module}
+use Rattle.gb_base.specs.declared.event.Kind.{Kind}
+use Rattle.gb_base.specs.declared.event.Event.TheVariants as event
+use Rattle.gb_formats.specs.Module.{Module, module_of_kind, module_raw}
+use Rattle.gb_formats.specs.ValidEvents.{IsValid}
 use Rattle.gb_machine.proofs.Opened.{machine_opened}
 use Rattle.gb_machine.specs.Modules.{is_plugged, is_plugged_at, plugged, plugged_before}
 use Rattle.gb_machine.specs.Plugging.{parts_from, parts_of, with_plugged}
 use Rattle.gb_machine.specs.State.{Plugged, Port, State}
 use Rattle.gb_machine.specs.{Actions.change, Actions.each, Lists.in_order, Lists.span}
 use Rattle.gb_machine.specs.{Members.EachTwo, Members.IsIn, Ports.powered}
+use Rattle.gb_machine.proofs.{Conditions.free as unmet}
+use Rattle.gb_machine.specs.Refusals.{insert_conditions, refusal}
+use Rattle.gb_machine.proofs.Conditions.{AreUnmet}
 use Rattle.gb_invariants.proofs.{Awaiting.not-both, Found.find-none, Found.in-ordered}
 use Rattle.gb_invariants.proofs.{Found.none-any, Lists.each-from, Lists.each-in}
 use Rattle.gb_invariants.proofs.{Outcomes.is-same, Outcomes.same-number}
 use Rattle.gb_laws.proofs.links.LinkLists.{ordered-in, ordered-stays}
 use Rattle.gb_laws.proofs.marks.Wholes.{AreElsewhere, AreWhole, HasPart, IsRange, IsWhole}
-use Rattle.gb_laws.proofs.marks.Wholes.{found-part, plugged_at, span-in, whole-as}
+use Rattle.gb_laws.proofs.marks.Wholes.{found-part, plugged_at, range-of, span-in, whole-as}
 
 -- ---- one part is plugged
 
@@ -54,11 +63,12 @@ pub plugged-other : (j : ℕ) (p : Plugged) (ms : List Plugged) → (p.intf == j
 plugged-other j p ms e =
     ap (λ o. is_some (option_map (λ (x : Plugged). x.body) o)) (found-other j p ms e)
 
-pub in-plugged : (x p : Plugged) (ms : List Plugged) → IsIn x (in_order plugged_before p ms) → (x ≡ p)
-    ⊎ IsIn x ms
+pub in-plugged : (x p : Plugged) (ms : List Plugged) → IsIn x (in_order plugged_before p ms)
+    → (x ≡ p) ⊎ IsIn x ms
 in-plugged x p ms i = in-ordered plugged_before x p ms i
 
-pub plugged-differ : (p : Plugged) (ms : List Plugged) → ((q : Plugged) → IsIn q ms → AreElsewhere p q)
+pub plugged-differ : (p : Plugged) (ms : List Plugged)
+    → ((q : Plugged) → IsIn q ms → AreElsewhere p q)
     → EachTwo AreElsewhere ms → EachTwo AreElsewhere (in_order plugged_before p ms)
 plugged-differ p [] other differ = (tt, tt)
 plugged-differ p (q ∷ qs) other differ =
@@ -224,15 +234,41 @@ parts-new i ms ns free p q k j = none-plugged p.intf ns q (parts-free i ms ns fr
 
 -- ---- a module is plugged whole
 
-module _ (i : ℕ) (ms : List Module) (ns : List Plugged) (range : IsRange i (length ms))
-    (free : list_any (λ j. is_plugged j ns) (span i (length ms)) ≡ false)
+-- A module can be plugged from an interface on: there are so many, and nothing is plugged there.
+pub record CanPlug (i : ℕ) (ms : List Module) (ns : List Plugged) : Type 0 where
+  pub range : IsRange i (length ms)
+  pub free : list_any (λ j. is_plugged j ns) (span i (length ms)) ≡ false
+
+can-plug : (i : ℕ) (ms : List Module) (s : State) (manifest : List ℕ) → 2 ≤ i → 1 ≤ length ms
+    → AreUnmet (insert_conditions s i (length ms) manifest) → CanPlug i ms s.modules
+can-plug i ms s manifest two one met =
+    record { range = range-of i (length ms) two one met.0; free = met.1.0 }
+
+-- So it is where an insertion isn't refused.
+pub kinds-plug : (s : State) (i : ℕ) (kinds : List Kind) → IsValid (event.Insert i kinds)
+    → refusal s (event.Insert i kinds) ≡ None → CanPlug i (map module_of_kind kinds) s.modules
+kinds-plug s i kinds valid allowed =
+    let many : length (map module_of_kind kinds) ≡ length kinds =
+    length-map kinds module_of_kind in
+    can-plug i (map module_of_kind kinds) s [] valid.0.0 (omega (arith, many, valid.1.0))
+    (subst (λ n. AreUnmet (insert_conditions s i n [])) (sym many)
+    (unmet s (event.Insert i kinds) allowed))
+
+pub raw-plug : (s : State) (i : ℕ) (manifest : List ℕ) → IsValid (event.InsertRaw i manifest)
+    → refusal s (event.InsertRaw i manifest) ≡ None
+    → CanPlug i (module_raw manifest ∷ []) s.modules
+raw-plug s i manifest valid allowed =
+    can-plug i (module_raw manifest ∷ []) s manifest valid.0 (omega arith)
+    (unmet s (event.InsertRaw i manifest) allowed)
+
+module _ (i : ℕ) (ms : List Module) (ns : List Plugged) (can : CanPlug i ms ns)
     (differ : EachTwo AreElsewhere ns) where
   abbrev pub now : List Plugged
   now = plugged_all (parts_of i ms) ns
 
   pub now-differ : EachTwo AreElsewhere now
   now-differ = all-differ (parts_of i ms) ns (parts-differ i i (length ms) ms)
-      (parts-new i ms ns free) differ
+      (parts-new i ms ns can.free) differ
 
   -- it is plugged at each of its interfaces
   pub now-there : (j : ℕ) → i ≤ j → j < i + length ms → plugged_at j now ≡ Some i
@@ -262,9 +298,9 @@ module _ (i : ℕ) (ms : List Module) (ns : List Plugged) (range : IsRange i (le
       here j = let r = in-parts i i (length ms) ms x j in
           let primary = r.primary in let many = r.many in record {
             range = record {
-              two = omega (arith, range.two);
-              one = omega (arith, range.one);
-              within = omega (arith, range.within);
+              two = omega (arith, can.range.two);
+              one = omega (arith, can.range.one);
+              within = omega (arith, can.range.within);
             };
             from = omega (arith, r.from);
             below = omega (arith, r.below);

@@ -1,6 +1,7 @@
 -- What stays of the supervisory controller's connection where a module is pulled, and what is
 -- plugged then.
-use Rattle.std.proofs.Common.{Bool, List, None, Option, Some, ap, cond, false, inl, inr, refl, subst, sym, true, ℕ, ⊎_elim, [], ◌+◌, ◌<◌, ◌∙◌, ◌∷◌, ◌≡◌, ◌≢◌, ◌≤◌}
+use Rattle.std.proofs.Common.{Bool, List, None, Some, ap, cond, false, inl, inr, refl, subst, sym}
+use Rattle.std.proofs.Common.{true, ℕ, ⊎_elim, [], ◌∙◌, ◌∷◌, ◌≡◌, ◌≢◌}
 use Rattle.std.specs.List.{find, list_any}
 use Rattle.std.specs.Prelude.{is_some, not, option_map, ◌==◌, ◌||◌}
 use Rattle.gb_base.specs.declared.end.End.TheVariants as end
@@ -13,14 +14,15 @@ use Rattle.gb_machine.specs.Plugging.{pulls_one, wired_numbers}
 use Rattle.gb_machine.specs.{Actions.each, Lists.at_first, Requests.is_used, State.Plugged}
 use Rattle.gb_machine.specs.{State.State, Wires.unwires, Wires.with_unwired}
 use Rattle.gb_invariants.proofs.{Awaiting.not-both, Drawing.used-unwired, Found.find-left}
-use Rattle.gb_invariants.proofs.{Found.none-of, Lists.found-in, Lists.in-at_first, Lists.in-without}
+use Rattle.gb_invariants.proofs.{Found.none-of, Lists.in-at_first, Lists.in-without}
 use Rattle.gb_invariants.proofs.{Lists.stays-without, Lists.two-filter, Outcomes.any-in}
 use Rattle.gb_invariants.proofs.{Outcomes.in-any, Outcomes.is-same, Outcomes.same-number}
 use Rattle.gb_invariants.proofs.{Selves.module-no-svc}
-use Rattle.gb_laws.proofs.marks.Wholes.{AreElsewhere, AreWhole, HasPart, IsWhole, found-part, plugged_at}
-use Rattle.gb_laws.proofs.marks.Wholes.{span-in, whole-only, whole-there}
-use Rattle.gb_laws.proofs.{points.Points.IsLive, steps.Ticking.unwired-plugs, steps.Ticking.wired-live}
 use Rattle.gb_invariants.proofs.ModuleTurns.{in-span}
+use Rattle.gb_laws.proofs.marks.Wholes.{AreElsewhere, AreWhole, HasPart, IsWhole, found-part}
+use Rattle.gb_laws.proofs.marks.Wholes.{plugged_at, span-in, whole-only, whole-there}
+use Rattle.gb_laws.proofs.points.Points.{IsLive}
+use Rattle.gb_laws.proofs.steps.Ticking.{unwired-plugs, wired-live}
 
 -- ---- the supervisory controller's connection
 

@@ -1,16 +1,17 @@
 -- What is plugged: the module of an interface, and that each module is whole.
-use Rattle.std.proofs.Common.{Bool, List, None, Option, Some, ap, arith, false, inl, inr, refl, subst, suc, sym, true, zero, ℕ, ⊎_elim, [], ◌+◌, ◌<◌, ◌∙◌, ◌∷◌, ◌≡◌, ◌≢◌, ◌≤◌}
+use Rattle.std.proofs.Common.{Bool, List, None, Option, Some, ap, arith, false, inl, inr, refl, suc}
+use Rattle.std.proofs.Common.{sym, true, zero, ℕ, ⊎_elim, ◌+◌, ◌<◌, ◌∙◌, ◌∷◌, ◌≡◌, ◌≢◌, ◌≤◌}
 use Rattle.std.proofs.lemmas.Bool.Decides.{nat_tests}
 use Rattle.std.specs.List.{find}
 use Rattle.std.specs.Prelude.{is_some, nat_le, nat_lt, option_map, ◌&&◌, ◌==◌}
 use Rattle.gb_machine.specs.{Lists.span, Members.EachTwo, Members.IsIn, Modules.is_plugged}
 use Rattle.gb_machine.specs.{Modules.is_plugged_at, State.Plugged}
+use Rattle.gb_machine.specs.Lists.{at_first}
+use Rattle.gb_machine.specs.Refusals.{is_beyond}
 use Rattle.gb_invariants.proofs.Awaiting.{none-some, not-both, same-some}
 use Rattle.gb_invariants.proofs.{Found.find-none, Lists.found-in, Lists.one-by}
 use Rattle.gb_invariants.proofs.Outcomes.{both-true, is-same, same-number}
-use Rattle.gb_machine.specs.Lists.{at_first}
-use Rattle.gb_invariants.proofs.Lists.{in-at_first, at_first-back}
-use Rattle.gb_machine.specs.Refusals.{is_beyond}
+use Rattle.gb_invariants.proofs.Lists.{at_first-back, in-at_first}
 
 -- ---- what is plugged at an interface
 

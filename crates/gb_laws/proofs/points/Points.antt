@@ -1,6 +1,6 @@
 -- The single changes that lead from one point within the step of an event to the next.
-use Rattle.std.specs.Prelude.{Bool, List, None, Option, Some, false, length, map, nat_lt, true, ℕ}
-use Rattle.std.specs.Prelude.{[], is_some, ◌+◌, ◌<◌, ◌∷◌, ◌≡◌, ◌≢◌, ◌⊎◌}
+use Rattle.std.specs.Prelude.{Bool, List, None, Option, Some, false, is_some, length, map, nat_lt}
+use Rattle.std.specs.Prelude.{true, ℕ, [], ◌+◌, ◌<◌, ◌∷◌, ◌≡◌, ◌≢◌, ◌⊎◌}
 use Rattle.gb_base.specs.declared.bridge.BridgeAsk.{BridgeAsk}
 use Rattle.gb_base.specs.declared.bridge.Reading.TheVariants as reading
 use Rattle.gb_base.specs.declared.end.End.{End}

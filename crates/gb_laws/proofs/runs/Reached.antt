@@ -1,5 +1,6 @@
 -- What holds of every state that a run of valid events leads to.
-use Rattle.std.proofs.Common.{None, Some, ap, subst, [], ◌++◌, ◌∙◌, ◌∷◌, ◌≡◌, List, ℕ, ◌+◌, ◌≤◌}
+use Rattle.std.proofs.Common.{List, None, Some, ap, subst, ℕ, [], ◌++◌, ◌+◌, ◌∙◌, ◌∷◌, ◌≡◌, ◌≤◌}
+use Rattle.std.specs.Prelude.{Ok}
 use Rattle.gb_base.specs.declared.end.{End.End, Side.Side}
 use Rattle.gb_base.specs.declared.end.End.TheVariants as end
 use Rattle.gb_base.specs.declared.end.Side.TheVariants as side
@@ -7,11 +8,15 @@ use Rattle.gb_base.specs.declared.host_event.HostEvent.TheVariants as host_event
 use Rattle.gb_base.specs.declared.event.Event.{Event}
 use Rattle.gb_base.specs.declared.event.Event.TheVariants as event
 use Rattle.gb_formats.specs.ValidEvents.{IsEnd, IsValid}
+use Rattle.gb_formats.specs.SvcRecords.{SvcAsk, read_svc_ask}
 use Rattle.gb_machine.proofs.Steps.{step-deliver}
 use Rattle.gb_machine.specs.{Actions.Told, Arriving.delivers, Bus.Connection, Bus.end_of}
 use Rattle.gb_machine.specs.{Events.step, LawsBus.NameRequests, Reached.OfARun}
 use Rattle.gb_machine.specs.{Refusals.refusal, State.State, State.first_state}
 use Rattle.gb_machine.specs.{Waiting.first_waiting}
+use Rattle.gb_machine.specs.Bus.{Request, request_of}
+use Rattle.gb_machine.specs.HostServing.{notified_by}
+use Rattle.gb_machine.specs.Host.{first_host}
 use Rattle.gb_invariants.proofs.Lists.{each-append}
 use Rattle.gb_laws.proofs.{runs.AllRuns.of-all, runs.AllRuns.of-state, links.LinkFrom.Linked}
 use Rattle.gb_laws.proofs.{links.LinkRuns.LinkedTo}
@@ -20,14 +25,9 @@ use Rattle.gb_laws.proofs.{runs.Runs.HoldsByMoments, runs.Runs.weaker}
 use Rattle.gb_laws.proofs.{runs.SettleQueues.first-waits, runs.Settles.IsSettleable}
 use Rattle.gb_laws.proofs.{runs.Settles.last-append}
 use Rattle.gb_laws.proofs.{runs.Settling.settleable-by_moments, identifiers.Single.names-by_moments}
-use Rattle.std.specs.Prelude.{Ok}
-use Rattle.gb_formats.specs.SvcRecords.{SvcAsk, read_svc_ask}
-use Rattle.gb_machine.specs.Bus.{Request, request_of}
 use Rattle.gb_laws.proofs.marks.Wholes.{AreWhole}
 use Rattle.gb_laws.proofs.marks.Marks.{notice_of}
 use Rattle.gb_laws.proofs.svc.SvcKinds.{svc-kind}
-use Rattle.gb_machine.specs.HostServing.{notified_by}
-use Rattle.gb_machine.specs.Host.{first_host}
 
 -- ---- which states are reached
 

@@ -1,7 +1,7 @@
 -- A law of points goes over ticks and pulls.
 use Rattle.std.proofs.Common.{Bool, List, None, Option, Some, ap, append-nil, append_assoc, arith}
-use Rattle.std.proofs.Common.{cond, false, inl, inr, map, refl, subst, sym, true, ℕ, ⊎_elim, [], ◌++◌, ◌+◌}
-use Rattle.std.proofs.Common.{◌<◌, ◌∙◌, ◌∷◌, ◌≡◌, ◌≢◌, ◌⊎◌}
+use Rattle.std.proofs.Common.{cond, false, inl, inr, map, refl, subst, sym, true, ℕ, ⊎_elim, []}
+use Rattle.std.proofs.Common.{◌++◌, ◌+◌, ◌<◌, ◌∙◌, ◌∷◌, ◌≡◌, ◌≢◌, ◌⊎◌}
 use Rattle.std.proofs.lemmas.Bool.Decides.{nat_tests}
 use Rattle.std.specs.List.{filter}
 use Rattle.std.specs.Prelude.{is_some, ◌==◌}
@@ -12,10 +12,10 @@ use Rattle.gb_base.specs.declared.entry.Entry.{Entry}
 use Rattle.gb_base.specs.declared.event.Event.TheVariants as event
 use Rattle.gb_base.specs.declared.outcome.Outcome.TheVariants as outcome
 use Rattle.gb_formats.specs.SvcRecords.{SvcAsk, svc_ask_kind, svc_ask_payload}
-use Rattle.gb_machine.proofs.Opened.{machine_opened}
-use Rattle.gb_machine.specs.Actions.{Action, change, each, given, when, ◌▸◌, nothing}
-use Rattle.gb_machine.specs.Asking.{asks, asks_with}
 use Rattle.gb_formats.specs.Grammar.{default_timeout}
+use Rattle.gb_machine.proofs.Opened.{machine_opened}
+use Rattle.gb_machine.specs.Actions.{Action, change, each, given, nothing, when, ◌▸◌}
+use Rattle.gb_machine.specs.Asking.{asks, asks_with}
 use Rattle.gb_machine.specs.Sending.{Draft, draft, is_wired, label_for}
 use Rattle.gb_machine.specs.Bus.{Bus, Connection, connection_of, has_number, next_number}
 use Rattle.gb_machine.specs.Bus.{request_of}
@@ -29,6 +29,8 @@ use Rattle.gb_machine.specs.{OwnAsking.svc_asks, OwnAsking.svc_own}
 use Rattle.gb_machine.specs.{Requests.is_due, Requests.open_on, Runs.Moment, State.Port}
 use Rattle.gb_machine.specs.{State.State}
 use Rattle.gb_machine.specs.Wires as wiring
+use Rattle.gb_machine.specs.State.{Plugged}
+use Rattle.gb_machine.specs.Modules.{interfaces_of, part_at}
 use Rattle.gb_invariants.proofs.Lists.{at_first-stays, two-filter}
 use Rattle.gb_invariants.proofs.Outcomes.{Rise, both-true, open_requests-rise, same-number}
 use Rattle.gb_invariants.proofs.Found.{find-left, none-of}
@@ -42,8 +44,6 @@ use Rattle.gb_laws.proofs.steps.StepPlugs.{Rests, rests-nothing, rests-▸}
 use Rattle.gb_laws.proofs.{steps.StepActLaws.acting, steps.StepEvents.rests-gives_up}
 use Rattle.gb_laws.proofs.{steps.StepSvcServes.Ends}
 pub use Rattle.gb_laws.proofs.points.Overdue.{due_by}
-use Rattle.gb_machine.specs.State.{Plugged}
-use Rattle.gb_machine.specs.Modules.{interfaces_of, part_at}
 
 -- ---- a connection that isn't unwired stays live
 

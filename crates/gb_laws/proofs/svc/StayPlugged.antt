@@ -2,7 +2,7 @@
 use Rattle.std.proofs.Common.{Bool, List, None, Some, ap, cond, false, inl, inr, refl, sym, true, ℕ}
 use Rattle.std.proofs.Common.{[], ◌∙◌, ◌∷◌, ◌≡◌, ◌⊎◌}
 use Rattle.std.specs.List.{find}
-use Rattle.std.specs.Prelude.{option_map, ◌==◌, ◌≢◌}
+use Rattle.std.specs.Prelude.{option_map, ◌==◌}
 use Rattle.gb_base.specs.declared.end.End.TheVariants as end
 use Rattle.gb_base.specs.declared.entry.ConnState.{ConnState}
 use Rattle.gb_base.specs.declared.entry.ConnState.TheVariants as state
@@ -20,7 +20,7 @@ use Rattle.gb_invariants.specs.Facts.{IsBefore}
 use Rattle.gb_laws.proofs.{points.Places.module-far, points.Places.place-is}
 use Rattle.gb_laws.proofs.{points.Points.SamePlugs}
 use Rattle.gb_laws.proofs.{steps.StepActions.IsToModule}
-use Rattle.gb_laws.proofs.marks.Wholes.{plugged_at, AreElsewhere, whole-changed}
+use Rattle.gb_laws.proofs.marks.Wholes.{AreElsewhere, plugged_at, whole-changed}
 
 -- ---- what stays plugged
 

@@ -11,16 +11,17 @@ use Rattle.gb_machine.specs.Bus.{Ask, Connection, Place, Request, connection_of,
 use Rattle.gb_machine.specs.Bus.{request_of}
 use Rattle.gb_machine.specs.Host.{first_host, interface_of, link_of}
 use Rattle.gb_machine.specs.Runs.{IsMoment, Moment, after}
-use Rattle.gb_machine.specs.SvcQueues.{HandlesInsertion, HandlesRemoval, items_in, inserts}
+use Rattle.gb_machine.specs.SvcQueues.{HandlesInsertion, HandlesRemoval, inserts, items_in}
 use Rattle.gb_machine.specs.{HostServing.served_on, LawsHotPlug.AbsentBetween}
 use Rattle.gb_machine.specs.{LawsHotPlug.AbsentIsUnconnected, Lists.first, Members.IsIn}
 use Rattle.gb_machine.specs.{State.State, Wiring.is_at}
 use Rattle.gb_invariants.proofs.Awaiting.{not-both, same-some}
 use Rattle.gb_invariants.proofs.{Lists.each-from, Numbers.found-by_number}
 use Rattle.gb_invariants.proofs.{Outcomes.same-number}
+use Rattle.gb_invariants.proofs.ModuleTurns.{in-span}
 use Rattle.gb_laws.proofs.links.Links.{IsKnown, IsPresent, leaving, linked, supervisory}
-use Rattle.gb_laws.proofs.marks.MarkKnown.{KnownAt, WasKnown, known-kept, IsInserted}
-use Rattle.gb_laws.proofs.points.PointParts.{Basis, IsNoticed, resting}
+use Rattle.gb_laws.proofs.marks.MarkKnown.{IsInserted, KnownAt, WasKnown, known-kept}
+use Rattle.gb_laws.proofs.points.PointParts.{Basis, resting}
 use Rattle.gb_laws.proofs.runs.Runs.{HoldsAtMoments, HoldsByMoments, at_each, weaker}
 use Rattle.gb_laws.proofs.{identifiers.Endpoints.ApartTo, identifiers.Endpoints.apart-throughout}
 use Rattle.gb_laws.proofs.{links.LinkFrom.Linked}
@@ -28,14 +29,13 @@ use Rattle.gb_laws.proofs.{links.LinkKept.InsertsAbsent, links.LinkLaw.link_law}
 use Rattle.gb_laws.proofs.{links.LinkRuns.start-absent}
 use Rattle.gb_laws.proofs.marks.MarkMoments.{present-some, some-none, some-present}
 use Rattle.gb_laws.proofs.marks.MarkNotices.{IsToldBySvc, notice-any, reads-front, told-by_svc}
-use Rattle.gb_laws.proofs.marks.Marks.{IsRemoval, known-there, known_at, notice_of, known-in}
+use Rattle.gb_laws.proofs.marks.Marks.{IsRemoval, known-in, known-there, known_at, notice_of}
 use Rattle.gb_laws.proofs.{marks.MarkTakes.no-link-one}
 use Rattle.gb_laws.proofs.{points.Points.Law, points.Points.upon, links.Removing.removed-absent}
 use Rattle.gb_laws.proofs.{runs.SettleQueues.IsFarEnd}
 use Rattle.gb_laws.proofs.{runs.SettleQueues.place-found, steps.Steps.over-step}
 use Rattle.gb_laws.proofs.marks.MarkHosts.{named-one}
 use Rattle.gb_laws.proofs.marks.Wholes.{is_within, true-within}
-use Rattle.gb_invariants.proofs.ModuleTurns.{in-span}
 
 -- ---- no live connection names an absent interface
 

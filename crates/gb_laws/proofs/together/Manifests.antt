@@ -1,6 +1,6 @@
 -- A manifest that is plugged fits into a message, and what comes from outside doesn't change it.
-use Rattle.std.proofs.Common.{List, None, Option, Some, ap, arith, length, refl}
-use Rattle.std.proofs.Common.{subst, sym, ℕ, ⊎_elim, ◌≡◌, ◌≤◌}
+use Rattle.std.proofs.Common.{List, None, Option, Some, ap, arith, length, refl, subst, sym, ℕ}
+use Rattle.std.proofs.Common.{⊎_elim, ◌≡◌, ◌≤◌}
 use Rattle.std.proofs.lemmas.Bool.Decides.{nat_tests}
 use Rattle.std.specs.List.{find}
 use Rattle.std.specs.Prelude.{option_map}
@@ -8,10 +8,8 @@ use Rattle.gb_base.specs.declared.event.Kind.{Kind}
 use Rattle.gb_base.specs.declared.event.Event.TheVariants as event
 use Rattle.gb_base.specs.declared.event.Kind.TheVariants as kinds
 use Rattle.gb_formats.specs.Devices.{Device, Stir, device_stir}
-use Rattle.gb_formats.specs.Module.{Module, ModulePort, module_of_kind}
-use Rattle.gb_formats.specs.Module.{module_raw, port_at}
-use Rattle.gb_formats.specs.ModuleSteps.{module_stir, port_stir}
-use Rattle.gb_formats.specs.ModuleSteps.{port_stirred}
+use Rattle.gb_formats.specs.Module.{Module, ModulePort, module_of_kind, module_raw, port_at}
+use Rattle.gb_formats.specs.ModuleSteps.{module_stir, port_stir, port_stirred}
 use Rattle.gb_formats.specs.{Results.Stirred}
 use Rattle.gb_machine.proofs.Conditions.{free}
 use Rattle.gb_machine.specs.Modules.{is_plugged_at, module_at, plugged, plugged_before}
