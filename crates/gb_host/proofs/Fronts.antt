@@ -17,11 +17,12 @@ spelled-both [] ys = refl
 spelled-both (x ∷ xs) ys = ap (λ zs. spelled_act x ++ zs) (spelled-both xs ys)
     ∙ sym (append_assoc (spelled_act x) (spelled xs) (spelled ys))
 
--- connections that are left make nothing
-pub left-pends : (ls : List Link) (e : Entry) (x : Host)
-    → Pends (links_left ls ++ turns.Act.Tell e ∷ []) x
-left-pends [] e x = tt
-left-pends (l ∷ ls) e x = left-pends ls e x
+-- acts that are done after others
+pub spelled-after : (xs ys : List turns.Act) (front before all : List Act)
+    → before ≡ front ++ spelled xs → all ≡ before ++ spelled ys → all ≡ front ++ spelled (xs ++ ys)
+spelled-after xs ys front before all e f =
+    f ∙ ap (λ zs. zs ++ spelled ys) e ∙ append_assoc front (spelled xs) (spelled ys)
+    ∙ ap (λ zs. front ++ zs) (sym (spelled-both xs ys))
 
 -- where there were no acts before it, the acts are those of the turn
 pub turned : (t : Turn) (front : List Act) (old new : Host) (r : Result (List Act) OutOfMemory)

@@ -8,6 +8,7 @@ pub mod Indexed
 pub mod Looks
 pub mod Manifests
 pub mod Marks
+pub mod Modules
 pub mod Named
 pub mod Ordering
 pub mod Quiet

@@ -1,10 +1,13 @@
 -- Interfaces whose enumerations wait for nothing.
 use Rattle.std.proofs.Common.{◌≡◌, ℕ, zero, suc, Bool, true, false, cond, None, List, [], ◌∷◌}
-use Rattle.std.proofs.Common.{get_or, insert, set, refl, ap, ◌∙◌}
+use Rattle.std.proofs.Common.{get_or, set, refl, ap, ◌∙◌}
 use Rattle.std.specs.List.{filter}
 use Rattle.gb_base.specs.declared.peers.Interface.{Interface}
+use Rattle.gb_host.specs.Changes.{with_module}
 use Rattle.gb_host.specs.Quiet.{AreQuiet}
 use Rattle.gb_machine.specs.Bus.{or_else}
+use Rattle.gb_machine.specs.Host.{intf_before, new_interface}
+use Rattle.gb_machine.specs.Lists.{in_order}
 use Rattle.gb_machine.specs.Waits.{interface_waits, purpose_in}
 
 -- none waits for a request
@@ -23,12 +26,25 @@ quiet-set (z ∷ xs) zero x y is same quiet =
 quiet-set (z ∷ xs) (suc i) x y is same quiet =
     (quiet.0, quiet-set xs i x y is same quiet.1)
 
--- one more comes that waits for nothing
-pub quiet-insert : (xs : List Interface) (i : ℕ) (x : Interface) → x.awaits ≡ None → AreQuiet xs
-    → AreQuiet (insert xs i x)
-quiet-insert xs zero x none quiet = (none, quiet)
-quiet-insert [] (suc i) x none quiet = (none, quiet)
-quiet-insert (z ∷ xs) (suc i) x none quiet = (quiet.0, quiet-insert xs i x none quiet.1)
+-- one more comes in order that waits for nothing
+quiet-in_order : (x : Interface) → x.awaits ≡ None → (xs : List Interface) → AreQuiet xs
+    → AreQuiet (in_order intf_before x xs)
+quiet-in_order x none [] quiet = (none, quiet)
+quiet-in_order x none (y ∷ ys) quiet =
+    by (intf_before x y) (quiet-in_order x none ys quiet.1)
+  where
+    by : (b : Bool) → AreQuiet (in_order intf_before x ys)
+        → AreQuiet (cond b (x ∷ y ∷ ys) (y ∷ in_order intf_before x ys))
+    by true later = (none, quiet)
+    by false later = (quiet.0, later)
+
+-- the interfaces of a module come
+pub quiet-module : (p : ℕ) (is : List ℕ) (xs : List Interface) → AreQuiet xs
+    → AreQuiet (with_module p is xs)
+quiet-module p [] xs quiet = quiet
+quiet-module p (i ∷ is) xs quiet =
+    quiet-module p is (in_order intf_before (new_interface p i) xs)
+    (quiet-in_order (new_interface p i) refl xs quiet)
 
 -- some of them stay
 pub quiet-filter : (test : Interface → Bool) (xs : List Interface) → AreQuiet xs

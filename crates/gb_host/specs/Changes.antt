@@ -1,5 +1,5 @@
 -- What changes of interfaces and connections.
-use Rattle.std.specs.Prelude.{◌≡◌, ◌<◌, ℕ, ◌-◌, Option, []}
+use Rattle.std.specs.Prelude.{◌≡◌, ◌<◌, ℕ, ◌-◌, Option, List, [], ◌∷◌}
 use Rattle.std.specs.Vec.{vec_capacity, vec_len}
 use Rattle.gb_base.specs.declared.peers.Interface.{Interface}
 use Rattle.gb_base.specs.declared.peers.Link.{Link}
@@ -9,8 +9,14 @@ use Rattle.gb_host.specs.declared.interfaces.Change.TheVariants as change
 use Rattle.gb_host.specs.declared.links.LinkChange.{LinkChange}
 use Rattle.gb_host.specs.declared.links.LinkChange.TheVariants as link
 use Rattle.gb_host.specs.declared.links.Links.{Links}
-use Rattle.gb_machine.specs.Host.{in_state}
+use Rattle.gb_machine.specs.Host.{in_state, intf_before, new_interface}
 use Rattle.gb_machine.specs.HostServing.{with_credits}
+use Rattle.gb_machine.specs.Lists.{in_order}
+
+-- these interfaces of a module more, whose enumerations begin
+abbrev pub with_module : ℕ → List ℕ → List Interface → List Interface
+with_module p [] xs = xs
+with_module p (i ∷ is) xs = with_module p is (in_order intf_before (new_interface p i) xs)
 
 -- an interface is to have a device id, or none
 abbrev pub with_device : Option ℕ → Interface → Interface

@@ -1,15 +1,28 @@
 -- What a turn of the application processor brings about.
-use Rattle.std.specs.Prelude.{◌≡◌, ⊤, Option, Some, None, Result, Ok, Err, List, [], ◌∷◌, ◌++◌}
+use Rattle.std.specs.Prelude.{◌≡◌, ◌≤◌, ⊤, ℕ, ◌+◌, Option, Some, None, Result, Ok, Err, List, []}
+use Rattle.std.specs.Prelude.{◌∷◌, ◌++◌}
 use Rattle.gb_base.specs.declared.entry.ConnState.TheVariants as state
+use Rattle.gb_base.specs.declared.entry.Entry.TheVariants as entry
+use Rattle.gb_base.specs.declared.entry.IntfStage.TheVariants as stage
 use Rattle.gb_base.specs.declared.errors.OutOfMemory.{OutOfMemory}
+use Rattle.gb_base.specs.declared.host_event.HostEvent.TheVariants as host_event
+use Rattle.gb_base.specs.declared.host_event.HostEvent.{HostEvent}
 use Rattle.gb_base.specs.declared.peers.Link.{Link}
+use Rattle.gb_base.specs.declared.steps.SequenceStep.TheVariants as steps
 use Rattle.gb_host.specs.Stands.{IsPending, IsUnchanged, host_of}
 use Rattle.gb_host.specs.declared.acts.Act.{Act}
 use Rattle.gb_host.specs.declared.acts.Act.TheVariants as act
 use Rattle.gb_host.specs.declared.host.Host.{Host}
 use Rattle.gb_machine.specs.Failures.{link_told}
+use Rattle.gb_machine.specs.SequenceSteps.{Target, purpose}
+use Rattle.gb_machine.specs.Sequences.{asking}
 use Rattle.gb_machine.specs.Turns as turns
 use Rattle.gb_machine.specs.Turns.{Asking, Turn}
+
+-- The interfaces of a module that is inserted are numbers of one byte.
+abbrev pub HasInterfaces : HostEvent → Type 0
+HasInterfaces (host_event.Inserted p count) = p + count ≤ 256
+HasInterfaces _ = ⊤
 
 -- a request that is made
 abbrev pub asks : Asking → Act
@@ -35,6 +48,21 @@ abbrev pub left_acts : Option Link → List turns.Act
 left_acts None = []
 left_acts (Some l) =
     turns.Act.Leave l.connection ∷ turns.Act.Tell (link_told state.Closed l) ∷ []
+
+-- an interface, before it has a device id
+abbrev pub target_at : ℕ → Target
+target_at i = record { intf = i; cport = 0; ap = 0; device = 0 }
+
+-- the enumeration of an interface is told to begin, and its first request is made
+abbrev pub begins : ℕ → List turns.Act
+begins i =
+    turns.Act.Tell (entry.Interface i stage.Enumerating)
+    ∷ turns.Act.Ask (asking 1 (purpose i 0 steps.EnableVsys) (target_at i)) ∷ []
+
+-- the enumerations of interfaces begin, one after another
+abbrev pub begun : List ℕ → List turns.Act
+begun [] = []
+begun (i ∷ is) = begins i ++ begun is
 
 -- what an act makes is pending, and the rest holds
 abbrev pub PendsWith : turns.Act → Host → Type 0 → Type 0

@@ -1,13 +1,15 @@
 //! The enumeration of an interface.
 
-ghost use Rattle.std.specs.Prelude.{◌≡◌, ◌∷◌, []};
+ghost use Rattle.std.specs.Prelude.{◌≡◌, ◌+◌, ◌≤◌, ◌∷◌, ◌++◌, [], IfOk};
 ghost use Rattle.gb_base.specs.declared.entry.Entry.TheVariants as entry;
 ghost use Rattle.gb_base.specs.declared.entry.IntfStage.TheVariants as stage;
 ghost use Rattle.gb_base.specs.declared.steps.SequenceStep.TheVariants as steps;
 ghost use Rattle.gb_formats.specs.Manifest.{check_answer};
+ghost use Rattle.gb_host.specs.Turning.{begins, begun, spelled};
 ghost use Rattle.gb_machine.specs.Failures.{interface_fails};
 ghost use Rattle.gb_machine.specs.Host.{free_cport, free_device, interface_of, with_interface};
-ghost use Rattle.gb_machine.specs.HostTurns.{host_inserted};
+ghost use Rattle.gb_machine.specs.HostTurns.{host_inserted, one_by_one};
+ghost use Rattle.gb_machine.specs.Lists.{span};
 ghost use Rattle.gb_machine.specs.SequenceSteps.{at_step};
 ghost use Rattle.gb_machine.specs.Sequences.{begins_control, begins_device, control_opened};
 ghost use Rattle.gb_machine.specs.Sequences.{device_given, enumerated, manifest_checked};
@@ -20,18 +22,46 @@ use crate::host::SVC;
 use crate::interfaces::Change;
 use crate::replies::{refused_in, size_in};
 use crate::{Act, Acts, Host};
-use gb_base::{Bytes, ConnState, Entry, IntfStage, OutOfMemory, Purpose, SequenceStep};
+use gb_base::{Bytes, ConnState, Entry, IntfStage, OutOfMemory, Purpose, Sequence, SequenceStep};
 use gb_manifest::Refused;
 use gb_payload::protocols::CONTROL;
+use std::alloc::Global;
 
 impl Host {
     ghost use Rattle.gb_host.specs.Stands.{host_of};
     ghost use Rattle.gb_host.specs.Turning.{TurnsAfter};
 
-    /// The enumeration of an interface begins.
-    pub(crate) fn inserted(&mut self, acts: Acts, intf: u8) -> Result<Acts, OutOfMemory>
-        ensures { TurnsAfter (host_inserted intf (host_of self.old)) acts
+    /// The enumeration of each interface of a module begins, in order of number.
+    pub(crate) fn inserted(
+        &mut self,
+        acts: Acts,
+        primary: u8,
+        count: u8,
+    ) -> Result<Acts, OutOfMemory>
+        ensures { primary + count ≤ 256 → TurnsAfter
+            (one_by_one (host_inserted primary) (span primary count) (host_of self.old)) acts
             self.old self.new result }
+    {
+        let intfs = span(self.alloc, primary, count)?;
+        let acts = self.begin_all(acts, intfs.items())?;
+        self.interfaces.add(self.alloc, primary, intfs.items())?;
+        Ok(acts)
+    }
+
+    /// The enumerations of interfaces begin, one after another.
+    fn begin_all(&self, acts: Acts, intfs: &[u8]) -> Result<Acts, OutOfMemory>
+        ensures { IfOk result (λ all. all ≡ acts ++ spelled (begun intfs.now)) }
+    {
+        let mut acts = acts;
+        for intf in intfs {
+            acts = self.begin(acts, *intf)?;
+        }
+        Ok(acts)
+    }
+
+    /// It is told that the enumeration of an interface begins, and its power is asked for.
+    fn begin(&self, acts: Acts, intf: u8) -> Result<Acts, OutOfMemory>
+        ensures { IfOk result (λ all. all ≡ acts ++ spelled (begins intf)) }
     {
         let purpose = Purpose {
             intf,
@@ -40,7 +70,6 @@ impl Host {
         };
         let acts = tell_interface(acts, intf, IntfStage::Enumerating)?;
         let acts = self.request(acts, SVC, 0, purpose)?;
-        self.interfaces.add(self.alloc, intf)?;
         Ok(acts)
     }
 
@@ -194,4 +223,18 @@ impl Host {
             None => 0,
         }
     }
+}
+
+/// So many interfaces from the primary one on, of those that are numbers of one byte.
+fn span(alloc: Global, primary: u8, count: u8) -> Result<Sequence<u8>, OutOfMemory>
+    ensures { primary + count ≤ 256 → IfOk result (λ intfs. intfs ≡ span primary count) }
+{
+    let mut intfs = Sequence::new(alloc);
+    for n in 0..count {
+        let Some(intf) = primary.checked_add(n) else {
+            return Ok(intfs);
+        };
+        intfs.push(intf)?;
+    }
+    Ok(intfs)
 }

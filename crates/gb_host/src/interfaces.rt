@@ -1,19 +1,21 @@
 //! The interfaces that modules were inserted at.
 
-ghost use Rattle.std.specs.Prelude.{◌≡◌, ◌<◌, ◌≤◌, nat_lt, [], None, IfSome, OnErr, OnOk};
-ghost use Rattle.std.specs.Prelude.{find, true};
-ghost use Rattle.std.specs.Prelude.{insert, length, option_copied};
-ghost use Rattle.std.specs.List.{list_any, position_from};
+ghost use Rattle.std.specs.Prelude.{◌≡◌, ◌<◌, ◌≤◌, ◌+◌, nat_lt, [], None, IfOk, IfSome, OnErr};
+ghost use Rattle.std.specs.Prelude.{OnOk, find, insert, length, map, option_copied, true};
+ghost use Rattle.std.specs.List.{filter, list_any, position_from};
+ghost use Rattle.std.specs.Vec.{vec_capacity, vec_len};
+ghost use Rattle.gb_base.specs.declared.peers.Interface.{Interface};
+ghost use Rattle.gb_host.specs.Changes.{with_module};
 ghost use Rattle.gb_host.specs.declared.interfaces.Change.TheVariants as change;
 ghost use Rattle.gb_host.specs.Quiet.{AreQuiet};
-ghost use Rattle.gb_machine.specs.Host.{has_device_id, intf_before, is_device, is_intf};
-ghost use Rattle.gb_machine.specs.Host.{new_interface, staged};
+ghost use Rattle.gb_machine.specs.Host.{has_device_id, has_primary, intf_before, is_device};
+ghost use Rattle.gb_machine.specs.Host.{is_intf, new_interface, staged};
 ghost use Rattle.gb_machine.specs.Lists.{at_first, first_free, in_order, without};
 ghost use Rattle.gb_machine.specs.Sequences.{enumerated};
 ghost use Rattle.gb_machine.specs.Waits.{interface_waits};
 
 use crate::waiting::purpose_in;
-use gb_base::{Bytes, Interface, IntfStage, OutOfMemory, Purpose, SequenceStep};
+use gb_base::{Bytes, Interface, IntfStage, OutOfMemory, Purpose, Sequence, SequenceStep};
 use std::alloc::Global;
 use std::marker::Model;
 
@@ -57,7 +59,6 @@ impl Model for Interfaces {
 
 impl Interfaces {
     ghost use Rattle.gb_host.specs.Changes.{changed, interface_awaits, with_device};
-    ghost use Rattle.gb_base.specs.declared.peers.Interface.{Interface};
 
     /// No interfaces. It takes no memory yet.
     pub fn new(alloc: Global) -> Interfaces
@@ -123,22 +124,33 @@ impl Interfaces {
         None
     }
 
-    /// An interface that is absent is known from now on, and its enumeration begins.
-    pub fn add(&mut self, alloc: Global, intf: u8) -> Result<(), OutOfMemory>
-        ensures ok { OnOk result (self.new ≡ in_order intf_before (new_interface intf) self.old) }
+    /// The interfaces of a module, in order of number.
+    pub fn of(&self, alloc: Global, primary: u8) -> Result<Sequence<u8>, OutOfMemory>
+        ensures { IfOk result (λ intfs.
+            intfs ≡ map (λ x. x.intf) (filter (has_primary primary) self.now)) }
+    {
+        let mut intfs = Sequence::new(alloc);
+        for interface in &self.known {
+            if interface.primary == primary {
+                intfs.push(interface.intf)?;
+            }
+        }
+        Ok(intfs)
+    }
+
+    /// These interfaces of a module are known from now on, and their enumerations begin. After a
+    /// refusal nothing has changed.
+    pub fn add(
+        &mut self,
+        alloc: Global,
+        primary: u8,
+        intfs: &[u8],
+    ) -> Result<(), OutOfMemory>
+        ensures ok { OnOk result (self.new ≡ with_module primary intfs.now self.old) }
         ensures err { OnErr result (self.new ≡ self.old) }
     {
-        let place = self.place(intf);
-        let interface = Interface {
-            intf,
-            stage: IntfStage::Enumerating,
-            device: None,
-            has_device: false,
-            size: 0,
-            manifest: Bytes::new(alloc),
-            awaits: None,
-        };
-        self.known.insert(place, interface)?;
+        self.known.reserve(intfs.len())?;
+        add_all(&mut self.known, alloc, primary, intfs);
         Ok(())
     }
 
@@ -267,31 +279,68 @@ impl Interfaces {
         }
         false
     }
+}
 
-    /// Where an interface belongs in the order of numbers: behind those up to its own.
-    fn place(&self, intf: u8) -> usize
-        ensures order { (x : Interface) → x.intf ≡ intf
-            → insert self.now result x ≡ in_order intf_before x self.now }
-        ensures within { result ≤ length self.now }
-    {
-        match self.index_above(intf) {
-            Some(i) => i,
-            None => self.known.len(),
+/// These interfaces of a module are known from now on, where there is room for them.
+fn add_all(known: &mut Vec<Interface>, alloc: Global, primary: u8, intfs: &[u8])
+    requires { vec_len known.old + length intfs.now ≤ vec_capacity known.old }
+    ensures { known.new.items ≡ with_module primary intfs.now known.old.items }
+{
+    for intf in intfs {
+        add(known, begun(alloc, primary, *intf));
+    }
+}
+
+/// An interface is known from now on, where there is room for it.
+fn add(known: &mut Vec<Interface>, interface: Interface)
+    requires { vec_len known.old < vec_capacity known.old }
+    ensures items { known.new.items ≡ in_order intf_before interface known.old.items }
+    ensures len { vec_len known.new ≡ vec_len known.old + 1 }
+    ensures capacity { vec_capacity known.old ≤ vec_capacity known.new }
+{
+    let place = place(known.as_slice(), interface.intf);
+    let _placed = known.insert(place, interface);
+}
+
+/// An interface of a module, whose enumeration begins.
+fn begun(alloc: Global, primary: u8, intf: u8) -> Interface
+    ensures { result ≡ new_interface primary intf }
+{
+    Interface {
+        intf,
+        primary,
+        stage: IntfStage::Enumerating,
+        device: None,
+        has_device: false,
+        size: 0,
+        manifest: Bytes::new(alloc),
+        awaits: None,
+    }
+}
+
+/// Where an interface belongs in the order of numbers: behind those up to its own.
+fn place(known: &[Interface], intf: u8) -> usize
+    ensures order { (x : Interface) → x.intf ≡ intf
+        → insert known.now result x ≡ in_order intf_before x known.now }
+    ensures within { result ≤ length known.now }
+{
+    match index_above(known, intf) {
+        Some(i) => i,
+        None => known.len(),
+    }
+}
+
+/// Where the first interface of a greater number stands.
+fn index_above(known: &[Interface], intf: u8) -> Option<usize>
+    ensures first { result ≡ position_from (λ x. nat_lt intf x.intf) 0 known.now }
+    ensures within { IfSome result (λ i. i < length known.now) }
+{
+    for (i, interface) in known.iter().enumerate() {
+        if intf < interface.intf {
+            return Some(i);
         }
     }
-
-    /// Where the first interface of a greater number stands.
-    fn index_above(&self, intf: u8) -> Option<usize>
-        ensures first { result ≡ position_from (λ x. nat_lt intf x.intf) 0 self.now }
-        ensures within { IfSome result (λ i. i < length self.now) }
-    {
-        for (i, interface) in self.known.iter().enumerate() {
-            if intf < interface.intf {
-                return Some(i);
-            }
-        }
-        None
-    }
+    None
 }
 
 /// An interface is enumerated with this manifest.

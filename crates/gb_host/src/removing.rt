@@ -1,9 +1,10 @@
-//! The removal of an interface.
+//! The removal of a module.
 
 ghost use Rattle.std.specs.Prelude.{◌≡◌, ◌==◌, ◌++◌, ◌∷◌, [], OnOk, IfOk};
-ghost use Rattle.std.specs.List.{filter};
+ghost use Rattle.std.specs.List.{filter, list_any};
 ghost use Rattle.gb_host.specs.Turning.{spelled};
-ghost use Rattle.gb_machine.specs.HostTurns.{host_removed, links_left, links_of};
+ghost use Rattle.gb_machine.specs.Host.{interfaces_of};
+ghost use Rattle.gb_machine.specs.HostTurns.{host_removed, links_left, links_of, one_by_one};
 
 use crate::connecting::leave;
 use crate::failing::tell_interface;
@@ -14,15 +15,51 @@ impl Host {
     ghost use Rattle.gb_host.specs.Stands.{host_of};
     ghost use Rattle.gb_host.specs.Turning.{TurnsAfter};
 
-    /// An interface is absent from now on: its connections are closed in order of number.
-    pub(crate) fn removed(&mut self, acts: Acts, intf: u8) -> Result<Acts, OutOfMemory>
-        ensures { TurnsAfter (host_removed intf (host_of self.old)) acts
-            self.old self.new result }
+    /// The interfaces of a module are absent from now on, one after another: the connections of each
+    /// are closed in order of number.
+    pub(crate) fn removed(&mut self, acts: Acts, primary: u8) -> Result<Acts, OutOfMemory>
+        ensures { TurnsAfter
+            (one_by_one host_removed (interfaces_of primary (host_of self.old)) (host_of self.old))
+            acts self.old self.new result }
     {
-        let acts = self.leave_all(acts, intf)?;
+        let intfs = self.interfaces.of(self.alloc, primary)?;
+        let acts = self.leave_module(acts, intfs.items())?;
+        self.forget(intfs.items());
+        Ok(acts)
+    }
+
+    /// Interfaces are left and told to be removed, one after another.
+    fn leave_module(&self, acts: Acts, intfs: &[u8]) -> Result<Acts, OutOfMemory>
+        ensures { IfOk result (λ all. all
+            ≡ acts ++ spelled (one_by_one host_removed intfs.now (host_of self.now)).acts) }
+    {
+        let mut acts = acts;
+        for (i, intf) in intfs.iter().enumerate() {
+            let (gone, _) = intfs.split_at(i);
+            acts = self.leave_interface(acts, gone, *intf)?;
+        }
+        Ok(acts)
+    }
+
+    /// An interface is left and told to be removed, once others are gone.
+    fn leave_interface(&self, acts: Acts, gone: &[u8], intf: u8) -> Result<Acts, OutOfMemory>
+        ensures { IfOk result (λ all. all ≡ acts ++ spelled (host_removed intf
+            (one_by_one host_removed gone.now (host_of self.now)).host).acts) }
+    {
+        let acts = self.leave_rest(acts, gone, intf)?;
         let acts = tell_interface(acts, intf, IntfStage::Removed)?;
-        self.interfaces.remove(intf);
-        self.links.remove_all(intf);
+        Ok(acts)
+    }
+
+    /// The connections of an interface are closed and given up, unless it is gone already.
+    fn leave_rest(&self, acts: Acts, gone: &[u8], intf: u8) -> Result<Acts, OutOfMemory>
+        ensures { IfOk result (λ all. all ≡ acts ++ spelled (links_left (links_of intf
+            (one_by_one host_removed gone.now (host_of self.now)).host))) }
+    {
+        if is_among(gone, intf) {
+            return Ok(acts);
+        }
+        let acts = self.leave_all(acts, intf)?;
         Ok(acts)
     }
 
@@ -36,6 +73,16 @@ impl Host {
             close(&mut acts, *link, intf)?;
         }
         Ok(acts)
+    }
+
+    /// Interfaces and their connections are there no more.
+    fn forget(&mut self, intfs: &[u8])
+        ensures { host_of self.new ≡ (one_by_one host_removed intfs.now (host_of self.old)).host }
+    {
+        for intf in intfs {
+            self.interfaces.remove(*intf);
+            self.links.remove_all(*intf);
+        }
     }
 }
 
@@ -52,4 +99,16 @@ fn close(acts: &mut Acts, link: Link, intf: u8) -> Result<(), OutOfMemory>
     })?;
     leave(acts, link)?;
     Ok(())
+}
+
+/// An interface is one of these.
+fn is_among(intfs: &[u8], intf: u8) -> bool
+    ensures { result ≡ list_any (λ i. intf == i) intfs.now }
+{
+    for one in intfs {
+        if intf == *one {
+            return true;
+        }
+    }
+    false
 }

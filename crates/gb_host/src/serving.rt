@@ -90,11 +90,11 @@ impl Host {
         match ask {
             SvcAsk::ProtocolVersion { .. } => self.version(),
             SvcAsk::Hello { .. } => Ok(self.refuses(SUCCESS)),
-            SvcAsk::ModuleInserted { primary, .. } => {
-                Ok(self.notices(HostEvent::Inserted { intf: primary }))
+            SvcAsk::ModuleInserted { primary, count, .. } => {
+                Ok(self.notices(HostEvent::Inserted { primary, count }))
             }
             SvcAsk::ModuleRemoved { primary } => {
-                Ok(self.notices(HostEvent::Removed { intf: primary }))
+                Ok(self.notices(HostEvent::Removed { primary }))
             }
             _ => Ok(self.refuses(PROTOCOL_BAD)),
         }

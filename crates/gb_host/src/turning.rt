@@ -13,7 +13,7 @@ use gb_base::{Bytes, HostEvent, OutOfMemory, Outcome, Purpose, SequenceStep};
 
 impl Host {
     ghost use Rattle.gb_host.specs.Stands.{Stands, host_of};
-    ghost use Rattle.gb_host.specs.Turning.{TurnsAfter, TurnsAs};
+    ghost use Rattle.gb_host.specs.Turning.{HasInterfaces, TurnsAfter, TurnsAs};
 
     /// Takes notice of something, and answers what is to be done, in order. An `Act::Make` stands
     /// directly before the `Act::Ask` for the same purpose, and its connection is pending until
@@ -24,15 +24,17 @@ impl Host {
     /// to 4,095, device ids 2 to 31, and sizes are bytes. The requests are those of the Greybus
     /// Specification, "SVC Protocol" and "Control Protocol".
     ///
+    /// Nothing is said of a module that was inserted with interfaces beyond 255.
+    ///
     /// It is answered with OutOfMemory where no memory was found. Nothing has changed then.
     pub fn on(&mut self, event: HostEvent) -> Result<Acts, OutOfMemory>
-        ensures step { (h : machine.Host) → Stands self.old h
+        ensures step { (h : machine.Host) → Stands self.old h → HasInterfaces event
             → TurnsAs (host_turn event h) self.old self.new result }
     {
         let acts = Acts::new(self.alloc);
         match event {
-            HostEvent::Inserted { intf } => self.inserted(acts, intf),
-            HostEvent::Removed { intf } => self.removed(acts, intf),
+            HostEvent::Inserted { primary, count } => self.inserted(acts, primary, count),
+            HostEvent::Removed { primary } => self.removed(acts, primary),
             HostEvent::Connect { intf, cport } => self.connect(acts, intf, cport),
             HostEvent::Disconnect { intf, cport } => self.disconnect(acts, intf, cport),
             HostEvent::Drain { intf, cport } => self.drain(acts, intf, cport),
