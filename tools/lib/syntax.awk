@@ -80,14 +80,16 @@ function write_vim(    i) {
     print "let b:current_syntax = 'gbus'"
 }
 
-# The words of forms that stand as they are, behind the first.
-function literal_words(    i, j, k, n, m, list, words, seen, text) {
+# The words of forms that stand as they are, behind the first, and those of the group `word`.
+function literal_words(    i, j, k, n, m, list, word, words, seen, text) {
     text = ""
     for (i = 1; i <= count; i++) {
         n = split(forms[i], list, " ")
         for (j = 2; j <= n; j++) {
             gsub(/[][*]/, "", list[j])
-            m = list[j] in group_of ? 0 : split(list[j], words, "|")
+            word = list[j]
+            if (word in group_of && group_of[word] == "word") word = pattern_of[word]
+            m = word in group_of ? 0 : split(word, words, "|")
             for (k = 1; k <= m; k++) {
                 if (!seen[words[k]]++) text = text (text == "" ? "" : "|") words[k]
             }

@@ -12,6 +12,7 @@ const LINES: &[(&str, LineReason)] = &[
     ("insert", MissingWord(2)),
     ("insert 1 gpio", BadWord(2)),
     ("insert 2 gpi", BadWord(3)),
+    ("insert 2 gpio gpio uart spi i2c", ExtraWord(7)),
     ("insert 2 raw 0", BadWord(4)),
     ("insert 2 raw 00 x", ExtraWord(5)),
     ("pull x", BadWord(2)),

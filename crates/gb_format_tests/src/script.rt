@@ -133,6 +133,21 @@ fn reads_times_and_places(rt: HostRuntime) {
     });
 }
 
+/// Whether a module whose interfaces are of these kinds is plugged, its primary interface at 2.
+fn plugs(event: &Event, wanted: &[Kind]) -> bool {
+    match event {
+        Event::Insert { intf: 2, kinds } => kinds.items() == wanted,
+        _ => false,
+    }
+}
+
+#[test]
+fn reads_kinds(rt: HostRuntime) {
+    says(&rt, rt.alloc(), b"insert 2 gpio uart", |event| {
+        plugs(event, &[Kind::Gpio, Kind::Uart])
+    });
+}
+
 #[test]
 fn reads_raw_bytes(rt: HostRuntime) {
     let alloc = rt.alloc();
@@ -208,15 +223,11 @@ fn makes<F: Fn(&Event) -> bool>(rt: &impl Abort, made: Result<Event, OutOfMemory
 #[test]
 fn makes_lines_from_a_seed(rt: HostRuntime) {
     let alloc = rt.alloc();
-    makes(&rt, made(alloc, 1, 1), |event| {
-        matches!(
-            event,
-            Event::Insert {
-                intf: 2,
-                kind: Kind::Bridge
-            }
-        )
-    });
+    makes(
+        &rt,
+        made(alloc, 1, 1),
+        |event| plugs(event, &[Kind::Bridge]),
+    );
     makes(
         &rt,
         made(alloc, 1, 24),

@@ -28,6 +28,7 @@ pub fn refusal_name(why: Refusal) -> &'static str
         Refusal::NotHeld => "NotHeld",
         Refusal::NoCredit => "NoCredit",
         Refusal::Full => "Full",
+        Refusal::OutOfRange => "OutOfRange",
     }
 }
 

@@ -16,18 +16,13 @@ use Rattle.gb_formats.specs.BridgeForms.{loopback_asking, loopback_form}
 use Rattle.gb_formats.specs.BridgeForms.{spi_asking, spi_form, uart_asking, uart_form}
 use Rattle.gb_formats.specs.Grammar.{of_cport, timed}
 use Rattle.gb_formats.specs.Said.{Said, Rest, next_word, at_end, each_word}
-use Rattle.gb_formats.specs.WordValues.{hex_word, kind_word, cport_word, type_word, u8_word}
-use Rattle.gb_formats.specs.WordValues.{u16_word}
+use Rattle.gb_formats.specs.WordValues.{hex_word, cport_word, type_word, u8_word, u16_word}
 use Rattle.gb_script.specs.declared.bridges.Protocol.{Protocol}
 use Rattle.gb_script.specs.declared.bridges.Protocol.TheVariants as protocol
 
 -- `HEX` behind `insert I raw`
 abbrev pub inserting_raw : ℕ → Rest → Said
 inserting_raw i ws = next_word hex_word ws (λ bytes ws. at_end ws (event.InsertRaw i bytes))
-
--- `KIND` behind `insert I`
-abbrev pub inserting_kind : ℕ → Rest → Said
-inserting_kind i ws = next_word kind_word ws (λ kind ws. at_end ws (event.Insert i kind))
 
 -- `TYPE HEX` behind to whom it is sent
 abbrev pub sending_type : Name → End → Rest → Said

@@ -1,9 +1,11 @@
 -- What a read line says of the grammar.
-use Rattle.std.specs.Prelude.{◌≡◌, ◌+◌, ℕ, List, [], ◌∷◌, Option, Some, Result, Ok, Err, ⊤}
+use Rattle.std.specs.Prelude.{◌≡◌, ◌+◌, ℕ, List, [], ◌∷◌, ◌++◌, Option, Some, None, Result}
+use Rattle.std.specs.Prelude.{Ok, Err, ⊤}
 use Rattle.gb_base.specs.declared.bridge.BridgeAsk.{BridgeAsk}
 use Rattle.gb_base.specs.declared.event.Event.{Event}
+use Rattle.gb_base.specs.declared.event.Kind.{Kind}
 use Rattle.gb_base.specs.declared.fault.LineReason.{LineReason}
-use Rattle.gb_formats.specs.Grammar.{Said}
+use Rattle.gb_formats.specs.Grammar.{Said, or_more_kinds}
 use Rattle.gb_formats.specs.Said.{Rest, each_word, next_cport, next_word}
 use Rattle.gb_script.specs.declared.fault.LineFault.{LineFault}
 use Rattle.gb_script.specs.declared.fault.LineFault.TheVariants as fault
@@ -30,6 +32,17 @@ GoesOnAt ws i c rest = (later : ℕ → ℕ → Rest → Said) → next_cport ws
 -- `I C` is missing or doesn't fit.
 abbrev pub StopsAt : Rest → LineReason → Type 0
 StopsAt ws why = (later : ℕ → ℕ → Rest → Said) → next_cport ws later ≡ Err why
+
+-- A kind stands there: the line goes on with it behind the kinds so far. Or no word is left.
+abbrev pub GoesOnByKind : Rest → Option (Kind × Rest) → Type 0
+GoesOnByKind ws None = ws.1 ≡ []
+GoesOnByKind ws (Some f) = (more : List Kind → Rest → Said) (i : ℕ) (kinds : List Kind)
+    → or_more_kinds more i kinds ws ≡ more (kinds ++ f.0 ∷ []) f.1
+
+-- The word that stands there is no kind.
+abbrev pub StopsAtKind : Rest → LineReason → Type 0
+StopsAtKind ws why = (more : List Kind → Rest → Said) (i : ℕ) (kinds : List Kind)
+    → or_more_kinds more i kinds ws ≡ Err why
 
 -- the first of the words that are left, and those behind it
 abbrev pub IsSplit : Rest → List ℕ → Rest → Type 0

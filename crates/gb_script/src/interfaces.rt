@@ -1,21 +1,25 @@
 //! The forms on interfaces and connections.
 
-ghost use Rattle.std.specs.Prelude.{◌≡◌, ℕ, List, Some, Ok, Err, MatchResult, codes};
+ghost use Rattle.std.specs.Prelude.{◌≡◌, ◌<◌, ◌≤◌, ◌++◌, ℕ, List, [], ◌∷◌, Some, Ok, Err};
+ghost use Rattle.std.specs.Prelude.{MatchResult, codes, length};
+ghost use Rattle.gb_base.specs.Kinds.{most_kinds};
 ghost use Rattle.gb_base.specs.declared.event.Event.{Event};
 ghost use Rattle.gb_base.specs.declared.event.Event.TheVariants as event;
-ghost use Rattle.gb_formats.specs.Grammar.{disconnecting, disconnecting_how, inserting, of_cport};
-ghost use Rattle.gb_formats.specs.Grammar.{of_intf};
-ghost use Rattle.gb_script.specs.Parts.{inserting_kind, inserting_raw};
+ghost use Rattle.gb_formats.specs.Grammar.{behind_four, behind_one, behind_three, behind_two};
+ghost use Rattle.gb_formats.specs.Grammar.{disconnecting, disconnecting_how, inserting};
+ghost use Rattle.gb_formats.specs.Grammar.{inserting_kinds, of_cport, of_intf};
+ghost use Rattle.gb_script.specs.Parts.{inserting_raw};
 ghost use Rattle.gb_formats.specs.Said.{Said};
-ghost use Rattle.gb_script.specs.Tells.{Says, StopsBy};
+ghost use Rattle.gb_script.specs.Tells.{GoesOnByKind, Says, StopsAtKind, StopsBy};
 
 use crate::LineFault;
 use crate::rest::Rest;
+use crate::values::kind_word;
 use crate::words::is;
-use gb_base::Event;
+use gb_base::{Event, Kind, Kinds, LineReason};
 use std::alloc::Global;
 
-/// `insert I KIND`, or `insert I raw HEX`.
+/// `insert I KIND ..`, with one to four kinds, or `insert I raw HEX`.
 pub fn insert(alloc: Global, rest: &Rest<'_>) -> Result<Event, LineFault>
     ensures { Says result (inserting rest.now) }
 {
@@ -24,7 +28,7 @@ pub fn insert(alloc: Global, rest: &Rest<'_>) -> Result<Event, LineFault>
     if is(word, "raw") {
         insert_raw(alloc, intf, &behind)
     } else {
-        insert_kind(intf, &rest)
+        insert_kinds(intf, &rest)
     }
 }
 
@@ -37,13 +41,75 @@ fn insert_raw(alloc: Global, intf: u8, rest: &Rest<'_>) -> Result<Event, LineFau
     Ok(Event::InsertRaw { intf, manifest })
 }
 
-/// `KIND` behind `insert I`.
-fn insert_kind(intf: u8, rest: &Rest<'_>) -> Result<Event, LineFault>
-    ensures { Says result (inserting_kind intf rest.now) }
+/// `KIND ..` behind `insert I`.
+fn insert_kinds(intf: u8, rest: &Rest<'_>) -> Result<Event, LineFault>
+    ensures { Says result (inserting_kinds intf rest.now) }
 {
     let (kind, rest) = rest.kind()?;
+    behind_one(intf, Kinds::one(kind), &rest)
+}
+
+/// Nothing, or a kind more, behind one kind.
+fn behind_one(intf: u8, kinds: Kinds, rest: &Rest<'_>) -> Result<Event, LineFault>
+    requires { length kinds ≤ 1 }
+    ensures { Says result (behind_one intf kinds rest.now) }
+{
+    let Some((kind, rest)) = next_kind(rest)? else {
+        return Ok(Event::Insert { intf, kinds });
+    };
+    behind_two(intf, with_kind(kinds, kind), &rest)
+}
+
+/// Nothing, or a kind more, behind two kinds.
+fn behind_two(intf: u8, kinds: Kinds, rest: &Rest<'_>) -> Result<Event, LineFault>
+    requires { length kinds ≤ 2 }
+    ensures { Says result (behind_two intf kinds rest.now) }
+{
+    let Some((kind, rest)) = next_kind(rest)? else {
+        return Ok(Event::Insert { intf, kinds });
+    };
+    behind_three(intf, with_kind(kinds, kind), &rest)
+}
+
+/// Nothing, or a kind more, behind three kinds.
+fn behind_three(intf: u8, kinds: Kinds, rest: &Rest<'_>) -> Result<Event, LineFault>
+    requires { length kinds ≤ 3 }
+    ensures { Says result (behind_three intf kinds rest.now) }
+{
+    let Some((kind, rest)) = next_kind(rest)? else {
+        return Ok(Event::Insert { intf, kinds });
+    };
+    behind_four(intf, with_kind(kinds, kind), &rest)
+}
+
+/// Nothing behind four kinds.
+fn behind_four(intf: u8, kinds: Kinds, rest: &Rest<'_>) -> Result<Event, LineFault>
+    ensures { Says result (behind_four intf kinds rest.now) }
+{
     rest.end()?;
-    Ok(Event::Insert { intf, kind })
+    Ok(Event::Insert { intf, kinds })
+}
+
+/// The next word as a kind, and the words behind it. None where no word is left.
+fn next_kind<'a>(rest: &Rest<'a>) -> Result<Option<(Kind, Rest<'a>)>, LineReason>
+    ensures { MatchResult result (GoesOnByKind rest.now) (StopsAtKind rest.now) }
+{
+    let Some((word, behind)) = rest.split_first() else {
+        return Ok(None);
+    };
+    match kind_word(word) {
+        Some(kind) => Ok(Some((kind, behind))),
+        None => Err(rest.bad_word()),
+    }
+}
+
+/// The kinds with one more behind them.
+fn with_kind(mut kinds: Kinds, kind: Kind) -> Kinds
+    requires { length kinds < most_kinds }
+    ensures { result ≡ kinds ++ kind ∷ [] }
+{
+    kinds.push(kind);
+    kinds
 }
 
 /// `pull I`.

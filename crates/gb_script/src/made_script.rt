@@ -6,7 +6,7 @@ ghost use Rattle.gb_formats.specs.Made.{made, made_drawn, made_lines};
 ghost use Rattle.gb_script.specs.Making.{AreDrawn, further};
 
 use crate::made_table::{by_row, row};
-use gb_base::{Event, Kind, OutOfMemory};
+use gb_base::{Event, Kind, Kinds, OutOfMemory};
 use std::alloc::Global;
 use std::marker::Model;
 
@@ -109,7 +109,7 @@ impl Maker {
         if k <= 4 {
             return Ok(Event::Insert {
                 intf: (k + 1) as u8,
-                kind: Kind::Bridge,
+                kinds: Kinds::one(Kind::Bridge),
             });
         }
         if k == 5 {

@@ -262,7 +262,7 @@ impl<'a> Rest<'a> {
         self.fits(name_word(word, who), rest)
     }
 
-    /// A kind of module.
+    /// A kind of interface.
     pub fn kind(&self) -> Result<(Kind, Rest<'a>), LineReason>
         ensures { MatchResult result
             (λ f. GoesOn kind_word self.now f.0 f.1)

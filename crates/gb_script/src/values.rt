@@ -1,4 +1,4 @@
-//! What single words mean: numbers, names and kinds of module.
+//! What single words mean: numbers, names and kinds of interface.
 
 ghost use Rattle.std.specs.Prelude.{◌≡◌, ◌≤◌, IfSome};
 ghost use Rattle.std.specs.List.{list_all};
@@ -60,7 +60,7 @@ pub fn name_word(word: &[u8], who: u8) -> Option<Name>
     }
 }
 
-/// A kind of module that a script can plug by name.
+/// A kind of interface that a script can plug by name.
 pub fn kind_word(word: &[u8]) -> Option<Kind>
     ensures { result ≡ kind_word word.now }
 {

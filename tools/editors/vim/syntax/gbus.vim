@@ -4,7 +4,7 @@ if exists('b:current_syntax')
 endif
 syntax match gbusError /\v^.*[^ \r].*$/
 syntax match gbusLine /\v^ *%(boot) *\r{0,1}$/ contains=@gbusWord
-syntax match gbusLine /\v^ *%(insert) +%([2-9]|[12][0-9]|3[01]) +%(gpio|i2c|spi|uart|bridge|loopback) *\r{0,1}$/ contains=@gbusWord
+syntax match gbusLine /\v^ *%(insert) +%([2-9]|[12][0-9]|3[01]) +%(gpio|i2c|spi|uart|bridge|loopback)%( +%(gpio|i2c|spi|uart|bridge|loopback)){0,1}%( +%(gpio|i2c|spi|uart|bridge|loopback)){0,1}%( +%(gpio|i2c|spi|uart|bridge|loopback)){0,1} *\r{0,1}$/ contains=@gbusWord
 syntax match gbusLine /\v^ *%(insert) +%([2-9]|[12][0-9]|3[01]) +%(raw) +%(-|%([0-9A-Fa-f]{2})+) *\r{0,1}$/ contains=@gbusWord
 syntax match gbusLine /\v^ *%(pull) +%([2-9]|[12][0-9]|3[01]) *\r{0,1}$/ contains=@gbusWord
 syntax match gbusLine /\v^ *%(connect) +%([2-9]|[12][0-9]|3[01]) +%(0|[1-9][0-9]{0,2}|[1-3][0-9]{3}|40[0-8][0-9]|409[0-5]) *\r{0,1}$/ contains=@gbusWord
