@@ -80,24 +80,12 @@ may-serve s at p item q run named front is = by p.side refl
     served : HostServed
     served = host_serves p.connection.number q.kind q.payload s.host
 
-    popped_bus : machine.Bus
-    popped_bus = popped p.connection.number p.side s.bus
-
-    still : Linked popped_bus s.host []
-    still = linked-popped p.connection.number p.side (reached-linked s run)
-
-    linked_by : (t : Bool) → Linked (if t then popped_bus
-        else replied p.connection.number side.Far (reply_item q served.answer) popped_bus) s.host []
-    linked_by true = still
-    linked_by false =
-        linked-replied p.connection.number side.Far (reply_item q served.answer) still
-
     noticed : (o : Option HostEvent) → p.side ≡ side.Ap → served.notices ≡ o
         → MayNotice o (after_serving p.connection q served (taken_state s p))
     noticed None at_ap e = tt
-    noticed (Some e) at_ap notices = may-note s at p item q e run
+    noticed (Some e) at_ap notices =
+        may-note s at p item q e (after_serving p.connection q served (taken_state s p)) run
         (record { named = named; side = at_ap; front = front; made = is; notices = notices })
-        (linked_by q.oneway)
 
     by : (t : Side) → p.side ≡ t → MayServe t p.connection q (taken_state s p)
     by side.Far e = tt

@@ -10,6 +10,7 @@ use Rattle.gb_host.specs.declared.acts.Act.TheVariants as act
 use Rattle.gb_host.specs.declared.host.Host.{Host}
 use Rattle.gb_machine.proofs.Opened.{machine_opened}
 use Rattle.gb_machine.specs.Actions.{Action, Told, each, nothing, on_bus, tell, ◌▸◌}
+use Rattle.gb_machine.specs.Bus.{Bus}
 use Rattle.gb_machine.specs.Failures.{unsent}
 use Rattle.gb_machine.specs.HostActs.{acts, fails, host_asks, notices, opened_with}
 use Rattle.gb_machine.specs.HostTurns.{host_turn}
@@ -20,7 +21,7 @@ use Rattle.gb_machine.specs.Wires.{shuts}
 use Rattle.gb_machine.specs.Wiring.{detached, shut_down}
 use Rattle.gb_system.proofs.Midways.{Midway, midway-as, midway-end, midway-here, midway-more}
 use Rattle.gb_system.proofs.Standing.{rehosted}
-use Rattle.gb_system.specs.Acting.{ActsAs, ArePossible, MayTurn, makes}
+use Rattle.gb_system.specs.Acting.{ActsAs, AreAsks, ArePossible, MayTurn, makes}
 use Rattle.gb_system.specs.Doing.{Does}
 use Rattle.gb_system.specs.Stands.{PartsStand}
 use Rattle.gb_system.specs.declared.parties.Parties.{Parties}
@@ -121,7 +122,7 @@ acting-first {x} {s} {a} e y all st turns may = record {
     told_is = sym (append-nil a);
     stand = rehosted y (host_turn e s.host).host st turns.host;
   };
-  possible = may;
+  possible = may.1;
   pends = turns.pending;
 }
 
@@ -154,6 +155,26 @@ acting-end {x} {whole} {s} {a} {b} false left none g =
     is-none (Act.Leave k ∷ more) e = absurd cc
     is-none (Act.Tell f ∷ more) e = absurd cc
 
+-- ---- requests behind a request
+
+-- they are possible at each bus
+asks-possible : (acts : List Act) {b : Bus} → AreAsks acts → ArePossible acts b
+asks-possible [] m = tt
+asks-possible (Act.Ask q ∷ rest) m = m
+asks-possible (Act.Open w q ∷ rest) m = absurd m
+asks-possible (Act.Shut k ∷ rest) m = absurd m
+asks-possible (Act.Leave k ∷ rest) m = absurd m
+asks-possible (Act.Tell e ∷ rest) m = asks-possible rest m
+
+-- they make no connection
+asks-pend : (acts : List Act) {x : Host} → AreAsks acts → Pends acts x
+asks-pend [] m = tt
+asks-pend (Act.Ask q ∷ rest) m = asks-pend rest m.1
+asks-pend (Act.Open w q ∷ rest) m = absurd m
+asks-pend (Act.Shut k ∷ rest) m = absurd m
+asks-pend (Act.Leave k ∷ rest) m = absurd m
+asks-pend (Act.Tell e ∷ rest) m = asks-pend rest m
+
 -- ---- one more act
 
 record Left (o : Option ℕ) : Type 0 where
@@ -164,7 +185,7 @@ left-of : (o : Option ℕ) → IsSome o → Left o
 left-of None h = absurd cc
 left-of (Some l) h = record { label = l; is = refl }
 
--- after a request nothing is left
+-- a request is made, and others at most are left
 asked-more : {x y : Parties} {whole : Action} {s : State} {a b c : List Entry} (skips : Bool)
     (later : List code.Act) (q : Asking) (more : List Act)
     → (m : Midway x whole (each (Act.Ask q ∷ more) acts) s a b)
@@ -175,9 +196,8 @@ asked-more {x} {y} {whole} {s} {a} {b} {c} skips later q more m may rest done = 
   is_left = subst (λ t. IsLeft t later more) (sym done.0) rest;
   midway = midway-more (host_asks q) (each more acts) (midway-as (host_asks q ▸ each more acts)
       (each-acts (Act.Ask q) more ∙ ap (λ f. f ▸ each more acts) (acts-ask q)) m) (done.1 may.0);
-  possible = subst (λ (ms : List Act). ArePossible ms (host_asks q m.state).state.bus) (sym may.1)
-      tt;
-  pends = subst (λ (ms : List Act). Pends ms y.host) (sym may.1) tt;
+  possible = asks-possible more may.1;
+  pends = asks-pend more may.1;
 }
 
 -- a connection is made, or its request fails and is left out
@@ -210,7 +230,7 @@ made-more {x} {y} {whole} {s} {a} {b} {c} false later w q more m may pends rest 
           (opens-some w q more m.state left.label
           (ap (λ k. next_label k side.Ap m.state.bus) may.0.on ∙ left.is)))
           (done.1 pends.0 may.0.attach may.0.intf may.0.cport);
-      possible = (may.0.ask, may.1);
+      possible = (may.0.ask, subst AreAsks (sym may.1) tt);
       pends = subst (λ (ms : List Act). Pends ms y.host) (sym may.1) tt;
     }
 

@@ -111,7 +111,8 @@ making-asks (connection e) = refl
 -- Acts that are pending are possible.
 pub possible : (acts : List Act) {b : Bus} {h : Host} → Linked b h acts → ArePossible acts b
 possible [] f = tt
-possible (Act.Ask q ∷ rest) f = (askable q f.pending.0.2, f.pending.0.1)
+possible (Act.Ask q ∷ rest) f =
+    (askable q f.pending.0.2, subst AreAsks (sym f.pending.0.1) tt)
 possible (Act.Open w q ∷ rest) {b} f = (
   record {
     attach = each-from (IsOther w.ap w.intf w.cport) b.connections (apart w q rest f);
@@ -138,7 +139,7 @@ may-idle k s f = record {
       let c = f.alive l found.0 in
       there c.connection c.live (ap (λ n. n == k) c.number ∙ found.1)
       (connection_of k s.bus) refl;
-  turn = possible _ (turned-idle k f.links);
+  turn = (tt, possible _ (turned-idle k f.links));
 }
   where
     there : (c : Connection) → IsIn c s.bus.connections → has_number k c ≡ true
@@ -152,7 +153,7 @@ may-idle k s f = record {
 pub may-follow : (n : ℕ) (how : Outcome) (s : State)
     → KnowsAt s → MayFollow n how s
 may-follow n how s f = record {
-  turn = possible _ (turned-ended n how f.links);
+  turn = (tt, possible _ (turned-ended n how f.links));
   idle = λ k. may-idle k (notices (host_event.Ended n how) s).state (knows-ended n how s f);
 }
 
@@ -160,22 +161,51 @@ may-follow n how s f = record {
 pub may-connect : (s : State) (i c : ℕ) → OfARun s → refusal s (event.Connect i c) ≡ None
     → IsValid (event.Connect i c) → MayTurn (host_event.Connect i c) s
 may-connect s i c run allowed valid =
-    possible _ (turned-connects s i c allowed valid.1 (reached-linked s run))
+    (tt, possible _ (turned-connects s i c allowed valid.1 (reached-linked s run)))
 
 -- a disconnect that isn't refused
 pub may-disconnect : (s : State) (i c : ℕ) → OfARun s → refusal s (event.Disconnect i c) ≡ None
     → MayTurn (host_event.Disconnect i c) s
 may-disconnect s i c run allowed =
-    possible _ (turned-disconnects s i c allowed (reached-linked s run))
+    (tt, possible _ (turned-disconnects s i c allowed (reached-linked s run)))
 
 -- a drain tells alone
 pub may-drain : (s : State) (i c : ℕ) → MayTurn (host_event.Drain i c) s
-may-drain s i c = by (link_at i c s.host)
+may-drain s i c = (tt, by (link_at i c s.host))
   where
     by : (o : Option Link) → ArePossible (link_turn state.Draining o
         (with_link i c (in_state state.Draining) s.host)).acts s.bus
     by None = tt
     by (Some l) = tt
+
+-- ---- modules that come and go
+
+-- the enumerations of interfaces begin: it is told and asked alone
+begun-asks : (p : ℕ) (is : List ℕ) (h : Host) → AreAsks (one_by_one (host_inserted p) is h).acts
+begun-asks p [] h = tt
+begun-asks p (i ∷ is) h =
+    ((omega arith, omega arith), begun-asks p is (with_new_interface p i h))
+
+begun-possible : (p : ℕ) (is : List ℕ) (h : Host) (b : Bus)
+    → ArePossible (one_by_one (host_inserted p) is h).acts b
+begun-possible p [] h b = tt
+begun-possible p (i ∷ is) h b =
+    ((omega arith, omega arith), begun-asks p is (with_new_interface p i h))
+
+-- connections are given up: nothing is asked
+left-possible : (ls : List Link) (e : Entry) (later : List Act) (b : Bus)
+    → ((c : Bus) → ArePossible later c)
+    → ArePossible ((links_left ls ++ Act.Tell e ∷ []) ++ later) b
+left-possible [] e later b possible = possible b
+left-possible (l ∷ ls) e later b possible =
+    left-possible ls e later (detached l.connection (shut_down l.connection b)) possible
+
+gone-possible : (is : List ℕ) (h : Host) (b : Bus)
+    → ArePossible (one_by_one host_removed is h).acts b
+gone-possible [] h b = tt
+gone-possible (i ∷ is) h b =
+    left-possible (links_of i h) (entry.Interface i stage.Removed) _ b
+    (gone-possible is (without_interface i h))
 
 -- ---- requests of the supervisory controller
 
@@ -188,27 +218,11 @@ pub record IsNoted (s : State) (at : End) (p : Place) (item : Item) (q : Incomin
   pub made : request_in item s.bus ≡ Some q
   pub notices : (host_serves p.connection.number q.kind q.payload s.host).notices ≡ Some e
 
--- That is possible, where the bus keeps the facts of connections: the request is one that the
--- supervisory controller made.
+-- That is possible: the request is one that the supervisory controller made.
 pub may-note : (s : State) (at : End) (p : Place) (item : Item) (q : Incoming) (e : HostEvent)
-    {b : Bus} → OfARun s → IsNoted s at p item q e → Linked b s.host [] → MayTurn e (record s {
-      bus = b;
-      host = (host_serves p.connection.number q.kind q.payload s.host).host;
-    })
-may-note s at p item q e {b} run noted f =
-    subst (λ (w : Incoming). MayTurn e (record s {
-      bus = b;
-      host = (host_serves p.connection.number w.kind w.payload s.host).host;
-    })) same
-    (possible _ (turned-noticed s at p w.number w.request e run (record {
-      named = noted.named;
-      side = noted.side;
-      front = noted.front ∙ ap Some w.item;
-      made = w.made;
-      notices = subst (λ (v : Incoming).
-          (host_serves p.connection.number v.kind v.payload s.host).notices ≡ Some e) (sym same)
-          noted.notices;
-    }) f))
+    (t : State) → OfARun s → IsNoted s at p item q e → MayTurn e t
+may-note s at p item q e t run noted =
+    by e (told-svc e w.request.kind w.request.payload first_host w.notice)
   where
     m : Moment
     m = record { told = []; event = event.Deliver at; before = s }
@@ -230,7 +244,25 @@ may-note s at p item q e {b} run noted f =
     w : SvcFront m e n
     w = svc-front m e n (reached-told s run).0 (reached-linked s run)
 
-    same : incoming w.number w.request ≡ q
-    same = same-some (incoming w.number w.request) q
-        (ap (option_map (incoming w.number)) (sym w.made)
-        ∙ ap (λ i. request_in i s.bus) (sym w.item) ∙ noted.made)
+    own : IsMadeOn 1 side.Far w.number s.bus
+    own =
+        let live = (place-is at s.bus.connections p noted.named).live in
+        let waits = first-in (queue p.side p.connection) item noted.front in
+        let of_item = (reached-told s run).0.bus.items.own p.connection p.side item live waits in
+        subst (λ k. IsMadeOn k side.Far w.number s.bus) w.one
+        (subst (λ d. IsMadeOn p.connection.number (other_side d) w.number s.bus) noted.side
+        (subst (IsOwn s.bus p.connection.number p.side) w.item of_item))
+
+    made : request_of w.number s.bus ≡ Some own.0
+    made = own.1
+
+    by : (e : HostEvent) → Tells e (read_svc_ask w.request.kind w.request.payload) → MayTurn e t
+    by (host_event.Inserted p count) (flags, read) =
+        let same = same-some own.0 w.request (sym own.1 ∙ w.made) in
+        let range = reached-insertion s run w.number w.request w.made
+        (subst (λ (r : Request). r.connection ≡ 1) same own.2)
+        (subst (λ (r : Request). r.side ≡ side.Far) same own.3) p count flags read in
+        let most = range.2 in
+        (omega (arith, most), begun-possible p (span p count) t.host t.bus)
+    by (host_event.Removed p) told = (tt, gone-possible (interfaces_of p t.host) t.host t.bus)
+    by _ told = absurd told

@@ -11,6 +11,7 @@ use Rattle.gb_base.specs.declared.steps.Purpose.{Purpose}
 use Rattle.gb_bus.specs.Wiring.{MayAttach}
 use Rattle.gb_formats.specs.Results.{most_payload}
 use Rattle.gb_host.specs.Stands.{IsPending}
+use Rattle.gb_host.specs.Turning.{HasInterfaces}
 use Rattle.gb_host.specs.declared.acts.Act as code
 use Rattle.gb_host.specs.declared.acts.Act.TheVariants as act
 use Rattle.gb_host.specs.declared.host.Host.{Host}
@@ -44,11 +45,19 @@ pub record IsOpenable (m : Making) (q : Asking) (b : Bus) : Type 0 where
   pub intf : q.purpose.intf ≡ m.intf
   pub cport : q.purpose.cport ≡ m.cport
 
--- Acts are possible at a bus, one after another: requests fit, a connection that is made has ends
--- that no other has, and a request comes last.
+-- Acts only ask and tell, and their requests fit.
+abbrev pub AreAsks : List Act → Type 0
+AreAsks [] = ⊤
+AreAsks (Act.Ask q ∷ rest) = IsAskable q.kind q.payload × AreAsks rest
+AreAsks (Act.Tell e ∷ rest) = AreAsks rest
+AreAsks (_ ∷ rest) = ⊥
+
+-- Acts are possible at a bus, one after another: requests fit, and a connection that is made has
+-- ends that no other has. Behind a request others are made at most, and none behind that of a
+-- connection that is made.
 abbrev pub ArePossible : List Act → Bus → Type 0
 ArePossible [] b = ⊤
-ArePossible (Act.Ask q ∷ rest) b = IsAskable q.kind q.payload × (rest ≡ [])
+ArePossible (Act.Ask q ∷ rest) b = IsAskable q.kind q.payload × AreAsks rest
 ArePossible (Act.Open m q ∷ rest) b = IsOpenable m q b × (rest ≡ [])
 ArePossible (Act.Shut k ∷ rest) b = ArePossible rest (shut_down k b)
 ArePossible (Act.Leave k ∷ rest) b = ArePossible rest (detached k b)
@@ -56,7 +65,7 @@ ArePossible (Act.Tell e ∷ rest) b = ArePossible rest b
 
 -- What the application processor does where it takes notice of something is possible.
 abbrev pub MayTurn : HostEvent → State → Type 0
-MayTurn e s = ArePossible (host_turn e s.host).acts s.bus
+MayTurn e s = HasInterfaces e × ArePossible (host_turn e s.host).acts s.bus
 
 -- ---- acts as they are done
 

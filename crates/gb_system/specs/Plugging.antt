@@ -1,6 +1,6 @@
 -- What the modules that are plugged answer and ask.
-use Rattle.std.specs.Prelude.{◌≡◌, ℕ, suc, nat_lt, if◌then◌else◌, Option, Some, None}
-use Rattle.std.specs.Prelude.{Result, Ok, Err, List, [], ◌∷◌, map}
+use Rattle.std.specs.Prelude.{◌≡◌, ◌≤◌, ◌+◌, ℕ, suc, nat_lt, if◌then◌else◌, Option, Some, None}
+use Rattle.std.specs.Prelude.{Result, Ok, Err, List, [], ◌∷◌}
 use Rattle.gb_base.specs.declared.errors.OutOfMemory.{OutOfMemory}
 use Rattle.gb_base.specs.declared.event.Event.{Event}
 use Rattle.gb_base.specs.declared.event.Event.TheVariants as event
@@ -10,18 +10,28 @@ use Rattle.gb_formats.specs.Devices.{Stir}
 use Rattle.gb_formats.specs.Module.{Module}
 use Rattle.gb_formats.specs.ModuleSteps.{module_serve, module_stir}
 use Rattle.gb_formats.specs.Results.{Step, Stirred}
-use Rattle.gb_machine.specs.Modules.{with_module}
+use Rattle.gb_machine.specs.Modules.{is_primary, with_module}
 use Rattle.gb_machine.specs.State.{Plugged}
 use Rattle.gb_module.specs.declared.stir.Stir as code
 use Rattle.gb_module.specs.declared.stir.Stir.TheVariants as stir
 use Rattle.gb_module.specs.declared.stir.StirFault.{StirFault}
 use Rattle.gb_module.specs.declared.stir.StirFault.TheVariants as fault
+use Rattle.gb_system.specs.declared.modules.Span.{Span}
 
--- the interfaces at which modules are plugged, rising
-abbrev pub intfs_of : List Plugged → List ℕ
-intfs_of modules = map (λ p. p.intf) modules
+-- so many interfaces from the primary one on are from 2 to 31
+pub record IsWithin (primary count : ℕ) : Type 0 where
+  pub least : 2 ≤ primary
+  pub most : primary + count ≤ 32
 
--- where the first module of a greater interface stands, or how many there are
+-- the interfaces of the module of which this is a part
+abbrev pub span_of : Plugged → Span
+span_of p = record { primary = p.primary; count = p.count }
+
+-- the same, where it is the part at the primary interface
+abbrev pub told_span : Plugged → Option Span
+told_span p = if is_primary p then Some (span_of p) else None
+
+-- where the first part at a greater interface stands, or how many there are
 abbrev pub place_behind : ℕ → List Plugged → ℕ
 place_behind i [] = 0
 place_behind i (p ∷ ps) = if nat_lt i p.intf then 0 else suc (place_behind i ps)

@@ -1,35 +1,73 @@
 //! The modules that are plugged.
 
 ghost use Rattle.std.specs.Prelude.{◌≡◌, ◌<◌, ◌≤◌, [], OnOk, OnErr, IfSome};
-ghost use Rattle.std.specs.Prelude.{length, option_copied, slice_get};
-ghost use Rattle.std.specs.List.{position_from};
-ghost use Rattle.gb_machine.specs.Modules.{is_plugged_at, module_at, module_takes};
-ghost use Rattle.gb_machine.specs.Modules.{plugged, unplugged};
+ghost use Rattle.std.specs.Prelude.{length, option_and_then, option_copied, option_map, slice_get};
+ghost use Rattle.std.specs.List.{list_any, position_from};
+ghost use Rattle.gb_machine.specs.Lists.{span};
+ghost use Rattle.gb_machine.specs.Modules.{is_plugged, is_plugged_at, module_at, module_takes};
+ghost use Rattle.gb_machine.specs.Modules.{part_at, plugged, unplugged};
 ghost use Rattle.gb_module.specs.Stirring.{IsStir};
 ghost use Rattle.gb_module.specs.Views.{stir_of};
-ghost use Rattle.gb_system.specs.Plugging.{ServesThere, StirsThere, intfs_of, place_behind};
+ghost use Rattle.gb_system.specs.Plugging.{IsWithin, ServesThere, StirsThere, place_behind};
+ghost use Rattle.gb_system.specs.Plugging.{span_of, told_span};
 
 use gb_base::{OutOfMemory, OwnAsks, Served};
 use gb_module::{CportState, Module, Stir, StirFault};
 use std::alloc::Global;
 use std::marker::Model;
 
-/// A module at an interface.
+/// The interfaces of a module: so many, from its primary interface on.
+#[derive(Clone, Copy)]
+pub struct Span {
+    /// The primary interface.
+    pub primary: u8,
+    /// How many there are.
+    pub count: u8,
+}
+
+/// What is plugged at an interface: a part of a module, all of whose interfaces are from 2 to 31.
 #[derive(Drop)]
 pub struct Plugged {
-    intf: u8,
-    body: Module,
+    /// The interface.
+    pub intf: u8,
+    /// The primary interface of the module.
+    pub primary: u8,
+    /// How many interfaces the module has.
+    pub count: u8,
+    /// What serves there.
+    pub body: Module,
 }
 
 impl Model for Plugged {
     ghost use Rattle.gb_machine.specs.State.{Plugged};
+    ghost use Rattle.gb_system.specs.Plugging.{IsWithin};
 
     ghost Value = { Plugged };
 
-    ghost view = { λ p. record { intf = p.intf; body = p.body } };
+    ghost view = { λ p. record {
+      intf = p.intf;
+      primary = p.primary;
+      count = p.count;
+      body = p.body;
+    } };
+
+    ghost invariant = { λ p. IsWithin p.primary p.count };
 }
 
-/// The modules that are plugged, in the order of their interfaces: thirty at most.
+impl Plugged {
+    /// The interfaces of the module of which this is a part.
+    fn span(&self) -> Span
+        ensures is { result ≡ span_of self.now }
+        ensures within { IsWithin result.primary result.count }
+    {
+        Span {
+            primary: self.primary,
+            count: self.count,
+        }
+    }
+}
+
+/// The parts of modules that are plugged, in the order of their interfaces: thirty at most.
 #[derive(Drop)]
 pub struct Modules {
     plugged: Vec<Plugged>,
@@ -75,13 +113,36 @@ impl Modules {
         }
     }
 
-    /// Plugs a module at an interface.
-    pub fn plug(&mut self, intf: u8, body: Module) -> Result<(), OutOfMemory>
-        ensures ok { OnOk result (self.new ≡ plugged intf body self.old) }
+    /// The interfaces of the module that has an interface, None exactly where nothing is plugged
+    /// there.
+    pub fn span(&self, intf: u8) -> Option<Span>
+        ensures is { result ≡ option_map span_of (part_at intf self.now) }
+        ensures within { IfSome result (λ m. IsWithin m.primary m.count) }
+    {
+        let i = self.place(intf)?;
+        Some(self.plugged[i].span())
+    }
+
+    /// Whether something is plugged at one of so many interfaces, from this one on.
+    pub fn any(&self, intf: u8, count: u8) -> bool
+        requires { IsWithin intf count }
+        ensures { result ≡ list_any (λ j. is_plugged j self.now) (span intf count) }
+    {
+        for i in 0..count {
+            if self.at(intf + i).is_some() {
+                return true;
+            }
+        }
+        false
+    }
+
+    /// Plugs a part of a module.
+    pub fn plug(&mut self, part: Plugged) -> Result<(), OutOfMemory>
+        ensures ok { OnOk result (self.new ≡ plugged part self.old) }
         ensures err { OnErr result (self.new ≡ self.old) }
     {
-        let i = self.behind(intf);
-        self.plugged.insert(i, Plugged { intf, body })?;
+        let i = self.behind(part.intf);
+        self.plugged.insert(i, part)?;
         Ok(())
     }
 
@@ -127,19 +188,23 @@ impl Modules {
         Ok(Some(own))
     }
 
-    /// How many modules are plugged.
+    /// At how many interfaces something is plugged.
     pub fn count(&self) -> usize
         ensures { result ≡ length self.now }
     {
         self.plugged.len()
     }
 
-    /// The interface of a module, by its place in the order of interfaces.
-    pub fn intf_at(&self, i: usize) -> Option<u8>
-        ensures { result ≡ slice_get (intfs_of self.now) i }
+    /// The interfaces of the module whose primary one has this place in the order of interfaces,
+    /// None where it is no primary one.
+    pub fn told_at(&self, i: usize) -> Option<Span>
+        ensures { result ≡ option_and_then told_span (slice_get self.now i) }
     {
-        let plugged = self.plugged.get(i)?;
-        Some(plugged.intf)
+        let part = self.plugged.get(i)?;
+        if part.intf != part.primary {
+            return None;
+        }
+        Some(part.span())
     }
 
     /// Where the module at an interface stands.
@@ -155,7 +220,7 @@ impl Modules {
         None
     }
 
-    /// Where the first module of a greater interface stands, or how many there are.
+    /// Where the first part at a greater interface stands, or how many there are.
     fn behind(&self, intf: u8) -> usize
         ensures first { result ≡ place_behind intf self.now }
         ensures within { result ≤ length self.now }

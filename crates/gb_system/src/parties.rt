@@ -100,7 +100,7 @@ impl Parties {
     {
         match e {
             Event::Boot => self.boot(told),
-            Event::Insert { intf, kind } => self.insert(*intf, *kind, told),
+            Event::Insert { intf, kinds } => self.insert(*intf, kinds, told),
             Event::InsertRaw { intf, manifest } => self.insert_raw(*intf, manifest.items(), told),
             Event::Pull { intf } => self.pull(*intf, told),
             Event::Connect { intf, cport } => self.connect(*intf, *cport, told),

@@ -13,7 +13,7 @@ loop-act-init c = λ s st may.
     acting-first c.args.event c.on.new.self c.items-act-items.result.now st
     (subst (λ (all : List Act). Turns (host_turn c.args.event s.host) []
     c.on.new.self all) (sym c.items-act-items.ensures)
-    (c.in_ok-acts.ensures.step s.host st.host)) may
+    (c.in_ok-acts.ensures.step s.host st.host may.0)) may
 
 pub loop-act-preserved-then-skips : goal.loop-act-preserved-then-skips
 loop-act-preserved-then-skips c = λ s st may.
