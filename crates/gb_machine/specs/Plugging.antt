@@ -1,5 +1,6 @@
 -- The actions of starting the supervisory controller, and of plugging and pulling modules.
-use Rattle.std.specs.Prelude.{ℕ, ◌+◌, true, if◌then◌else◌, is_some, List, [], ◌∷◌, ◌++◌, length, map}
+use Rattle.std.specs.Prelude.{ℕ, ◌+◌, true, if◌then◌else◌, is_some, List, [], ◌∷◌, ◌++◌, length}
+use Rattle.std.specs.Prelude.{map}
 use Rattle.std.specs.List.{filter}
 use Rattle.gb_formats.specs.Module.{Module}
 use Rattle.gb_formats.specs.SvcRecords.{SvcAsk}
@@ -76,8 +77,8 @@ unfoldable pub tells_removed : ℕ → List ℕ → Action
 tells_removed primary is = by_state (λ s.
     svc_asks (SvcAsk.ModuleRemoved primary) ▸ change (recalled (next_number s.bus) is))
 
--- A module is pulled, of which this is a part: its interfaces one after another, and the supervisory
--- controller tells it once it has started.
+-- A module is pulled, of which this is a part: its interfaces one after another, and the
+-- supervisory controller tells it once it has started.
 unfoldable pub pulls_module : Plugged → Action
 pulls_module p = by_state (λ s.
     each (interfaces_of p) pulls_one
