@@ -17,11 +17,15 @@ use Rattle.gb_host.specs.declared.acts.Act.{Act}
 use Rattle.gb_host.specs.declared.host.Host.{Host}
 use Rattle.gb_machine.specs.Host as machine
 use Rattle.gb_machine.specs.Host.{is_intf, with_new_interface}
-use Rattle.gb_machine.specs.HostTurns.{host_inserted, host_removed, links_left, links_of, one_by_one}
-use Rattle.gb_machine.specs.HostTurns.{without_interface}
+use Rattle.gb_machine.specs.HostTurns.{host_inserted, host_removed, links_left, links_of}
+use Rattle.gb_machine.specs.HostTurns.{one_by_one, without_interface}
 use Rattle.gb_machine.specs.Lists.{span, without}
 use Rattle.gb_machine.specs.Turns as turns
 use Rattle.gb_machine.specs.Turns.{Turn, turn}
+
+-- an application processor by what it knows
+abbrev with_parts : List Interface → List Link → machine.Host
+with_parts xs ls = record { interfaces = xs; links = ls }
 
 -- the acts with one interface more, at the end
 pub acts-more : (one : ℕ → machine.Host → Turn) (is : List ℕ) (i : ℕ) (h : machine.Host)
@@ -37,10 +41,11 @@ acts-more one (j ∷ is) i h =
 -- the enumerations begin, and their interfaces are known
 inserted-is : (p : ℕ) (is : List ℕ) (h : machine.Host)
     → one_by_one (host_inserted p) is h
-    ≡ turn (record { interfaces = with_module p is h.interfaces; links = h.links }) (begun is)
+    ≡ turn (with_parts (with_module p is h.interfaces) h.links) (begun is)
 inserted-is p [] h = refl
 inserted-is p (i ∷ is) h =
-    ap (λ (t : Turn). turn t.host (begins i ++ t.acts)) (inserted-is p is (with_new_interface p i h))
+    ap (λ (t : Turn). turn t.host (begins i ++ t.acts))
+    (inserted-is p is (with_new_interface p i h))
 
 -- they make no connection
 begun-pends : (is : List ℕ) (x : Host) → Pends (begun is) x
@@ -54,14 +59,8 @@ pub inserted-turns : (p : ℕ) (is : List ℕ) (old new : Host) (front all : Lis
     → Turns (one_by_one (host_inserted p) is (host_of old)) front new all
 inserted-turns p is old new front all known same acts =
     subst (λ t. Turns t front new all) (sym (inserted-is p is (host_of old))) (record {
-      host = sym (ap (λ (xs : List Interface). let h : machine.Host = record {
-        interfaces = xs;
-        links = new.links.live.items;
-      } in h) known
-      ∙ ap (λ (ls : List Link). let h : machine.Host = record {
-        interfaces = with_module p is old.interfaces;
-        links = ls;
-      } in h) same);
+      host = sym (ap (λ xs. with_parts xs new.links.live.items) known
+          ∙ ap (with_parts (with_module p is old.interfaces)) same);
       acts = acts;
       pending = begun-pends is new;
     })
@@ -113,16 +112,16 @@ pub one-gone : (is : List ℕ) (n : ℕ) → n < length is
     → (h : machine.Host) (xs : List Interface) (ls : List Link)
     → xs ≡ without (is_intf (get_or is n 0)) h.interfaces
     → ls ≡ without (λ l. l.intf == get_or is n 0) h.links
-    → (one_by_one host_removed (drop (n + 1) is) (record { interfaces = xs; links = ls })).host
+    → (one_by_one host_removed (drop (n + 1) is) (with_parts xs ls)).host
     ≡ (one_by_one host_removed (drop n is) h).host
 one-gone is n within h xs ls e f =
     let i = get_or is n 0 in
     let later = drop (n + 1) is in
     let split : drop n is ≡ i ∷ later =
-        drop-cons is n 0 within ∙ ap (λ m. i ∷ drop m is) (sym (add-one n)) in
-    let gone : List Interface → List Link → machine.Host =
-        λ ys ms. (one_by_one host_removed later (record { interfaces = ys; links = ms })).host in
-    ap (λ ys. gone ys ls) e ∙ ap (gone (without (is_intf i) h.interfaces)) f
+    drop-cons is n 0 within ∙ ap (λ m. i ∷ drop m is) (sym (add-one n)) in
+    let after : machine.Host → machine.Host = λ g. (one_by_one host_removed later g).host in
+    ap (λ ys. after (with_parts ys ls)) e
+    ∙ ap (λ ms. after (with_parts (without (is_intf i) h.interfaces) ms)) f
     ∙ ap (λ js. (one_by_one host_removed js h).host) (sym split)
 
 -- what passes the one test passes the other, or doesn't

@@ -140,12 +140,7 @@ impl Interfaces {
 
     /// These interfaces of a module are known from now on, and their enumerations begin. After a
     /// refusal nothing has changed.
-    pub fn add(
-        &mut self,
-        alloc: Global,
-        primary: u8,
-        intfs: &[u8],
-    ) -> Result<(), OutOfMemory>
+    pub fn add(&mut self, alloc: Global, primary: u8, intfs: &[u8]) -> Result<(), OutOfMemory>
         ensures ok { OnOk result (self.new ≡ with_module primary intfs.now self.old) }
         ensures err { OnErr result (self.new ≡ self.old) }
     {

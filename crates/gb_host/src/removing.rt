@@ -15,8 +15,8 @@ impl Host {
     ghost use Rattle.gb_host.specs.Stands.{host_of};
     ghost use Rattle.gb_host.specs.Turning.{TurnsAfter};
 
-    /// The interfaces of a module are absent from now on, one after another: the connections of each
-    /// are closed in order of number.
+    /// The interfaces of a module are absent from now on, one after another: the connections of
+    /// each are closed in order of number.
     pub(crate) fn removed(&mut self, acts: Acts, primary: u8) -> Result<Acts, OutOfMemory>
         ensures { TurnsAfter
             (one_by_one host_removed (interfaces_of primary (host_of self.old)) (host_of self.old))

@@ -2,7 +2,7 @@
 use Rattle.std.proofs.Common.{Bool, List, None, Option, Some, ap, arith, cond, false, inl, inr, not}
 use Rattle.std.proofs.Common.{refl, suc, sym, true, zero, ℕ, ⊎_elim, [], ◌++◌, ◌+◌, ◌<◌, ◌∙◌, ◌∷◌}
 use Rattle.std.proofs.Common.{◌≡◌, ◌≤◌, ◌⊎◌}
-use Rattle.std.specs.List.{find, list_any}
+use Rattle.std.specs.List.{filter, find, list_any}
 use Rattle.std.specs.Prelude.{option_map, ◌==◌, ◌||◌}
 use Rattle.gb_machine.specs.Lists.{at_first, first_free, in_order, without}
 use Rattle.gb_machine.specs.{Bus.Connection, Bus.has_number, Members.IsIn}
@@ -46,6 +46,20 @@ none-of test (x ∷ xs) = by (test x) refl (none-of test xs)
     by true e h = h
     by false e h = ap (λ b. cond b (Some x) (find test (without test xs))) e ∙ h
 
+-- where none passes none of some does
+pub find-filter : {A : Type 0} (test keep : A → Bool) (xs : List A) → find test xs ≡ None
+    → find test (filter keep xs) ≡ None
+find-filter test keep [] none = refl
+find-filter test keep (x ∷ xs) none =
+    by (keep x) (test x) refl none (find-filter test keep xs)
+  where
+    by : (k t : Bool) → test x ≡ t → cond t (Some x) (find test xs) ≡ None
+        → (find test xs ≡ None → find test (filter keep xs) ≡ None)
+        → find test (cond k (x ∷ filter keep xs) (filter keep xs)) ≡ None
+    by k true e h rec = absurd cc
+    by true false e h rec = ap (λ t. cond t (Some x) (find test (filter keep xs))) e ∙ rec h
+    by false false e h rec = rec h
+
 -- A member where the first that passes is changed was there, or is that one, changed.
 pub in-first : {A : Type 0} (test : A → Bool) (change : A → A) (xs : List A) (x : A)
     → IsIn x (at_first test change xs)
@@ -87,6 +101,34 @@ in-ordered before x y (z ∷ zs) i = by (before y z) i (in-ordered before x y zs
     by true (inr j) rec = inr j
     by false (inl e) rec = inr (inl e)
     by false (inr j) rec = ⊎_elim (λ e. inl e) (λ k. inr (inr k)) (rec j)
+
+-- what is found where one is new that doesn't pass
+pub find-ordered : {A : Type 0} (test : A → Bool) (before : A → A → Bool) (y : A) (xs : List A)
+    → test y ≡ false → find test (in_order before y xs) ≡ find test xs
+find-ordered test before y [] other = ap (λ t. cond t (Some y) None) other
+find-ordered test before y (x ∷ xs) other =
+    by (before y x) (find-ordered test before y xs other)
+  where
+    by : (b : Bool) → find test (in_order before y xs) ≡ find test xs
+        → find test (cond b (y ∷ x ∷ xs) (x ∷ in_order before y xs)) ≡ find test (x ∷ xs)
+    by true rec = ap (λ t. cond t (Some y) (find test (x ∷ xs))) other
+    by false rec = ap (λ o. cond (test x) (Some x) o) rec
+
+-- what is found where one changes that doesn't pass
+pub find-aside : {A : Type 0} (test other : A → Bool) (change : A → A) (xs : List A)
+    → ((x : A) → other x ≡ true → (test x ≡ false) × (test (change x) ≡ false))
+    → find test (at_first other change xs) ≡ find test xs
+find-aside test other change [] apart = refl
+find-aside test other change (x ∷ xs) apart =
+    by (other x) refl (find-aside test other change xs apart)
+  where
+    by : (b : Bool) → other x ≡ b → find test (at_first other change xs) ≡ find test xs
+        → find test (cond b (change x ∷ xs) (x ∷ at_first other change xs)) ≡ find test (x ∷ xs)
+    by true e rec =
+        let w = apart x e in
+        ap (λ t. cond t (Some (change x)) (find test xs)) w.1
+        ∙ sym (ap (λ t. cond t (Some x) (find test xs)) w.0)
+    by false e rec = ap (λ o. cond (test x) (Some x) o) rec
 
 -- ---- the first free number
 

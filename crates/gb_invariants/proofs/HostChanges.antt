@@ -15,12 +15,34 @@ use Rattle.gb_base.specs.declared.outcome.Outcome.TheVariants as outcome
 use Rattle.gb_base.specs.declared.steps.SequenceStep.TheVariants as steps
 use Rattle.gb_machine.specs.Host.{Host, in_state, is_draining, link_at, link_of, staged}
 use Rattle.gb_machine.specs.Host.{with_interface, with_link, with_new_interface, without_link}
-use Rattle.gb_machine.specs.HostTurns.{links_left, links_of, without_interface}
+use Rattle.gb_machine.specs.HostTurns.{host_inserted, host_removed, host_turn, links_left, links_of}
+use Rattle.gb_machine.specs.HostTurns.{without_interface}
 use Rattle.gb_machine.specs.SequenceSteps.{at_step, is_enumeration, purpose}
 use Rattle.gb_machine.specs.Sequences.{ap_in, asking, enumerated, opens, target}
 use Rattle.gb_machine.specs.Turns.{Act, Turn, turn}
 use Rattle.gb_machine.specs.{Failures.link_told, Failures.told_of, Members.Each, Waits.awaited}
 use Rattle.gb_machine.specs.{Waits.awaits_nothing}
+
+-- ---- what is noticed
+
+-- What the application processor takes notice of in one turn: an interface of a module is inserted
+-- or removed, or something else happens.
+pub data Notice : Type 0 where
+  at_insertion : (p i : ℕ) → Notice
+  at_removal : (i : ℕ) → Notice
+  at_event : (e : HostEvent) → Notice
+
+-- the turn at an event, none where that is of a module, which has one for each interface
+abbrev pub event_turn : HostEvent → Host → Turn
+event_turn (host_event.Inserted p count) h = turn h []
+event_turn (host_event.Removed p) h = turn h []
+event_turn e h = host_turn e h
+
+-- The turn at what is noticed.
+abbrev pub turn_of : Notice → Host → Turn
+turn_of (at_insertion p i) h = host_inserted p i h
+turn_of (at_removal i) h = host_removed i h
+turn_of (at_event e) h = event_turn e h
 
 -- ---- changes and ends
 
@@ -28,8 +50,8 @@ use Rattle.gb_machine.specs.{Waits.awaits_nothing}
 pub data HostChange : Type 0 where
   -- something is told that is of no connection
   tells : (e : Entry) → HostChange
-  -- an interface is inserted, or is gone with its connections
-  arrives : (i : ℕ) → HostChange
+  -- an interface of a module is inserted, or is gone with its connections
+  arrives : (p i : ℕ) → HostChange
   departs : (i : ℕ) → HostChange
   -- a sequence waits for nothing
   resumes : (p : Purpose) → HostChange
@@ -53,7 +75,7 @@ pub data HostEnd : Type 0 where
 -- the application processor behind a change
 abbrev pub host_after : HostChange → Host → Host
 host_after (tells e) h = h
-host_after (arrives i) h = with_new_interface i h
+host_after (arrives p i) h = with_new_interface p i h
 host_after (departs i) h = without_interface i h
 host_after (resumes p) h = awaits_nothing p h
 host_after (updates i f) h = with_interface i f h
@@ -98,6 +120,7 @@ IsOfNone _ = ⊥
 -- What an update keeps.
 pub record Keeps (f : Interface → Interface) : Type 0 where
   pub intf : (x : Interface) → (f x).intf ≡ x.intf
+  pub primary : (x : Interface) → (f x).primary ≡ x.primary
   pub awaits : (x : Interface) → (f x).awaits ≡ x.awaits
   pub stage : (x : Interface) → (f x).stage ≡ x.stage
 
@@ -144,83 +167,83 @@ step_behind steps.TellDisconnected = Some steps.DestroyConnection
 step_behind steps.DestroyConnection = None
 
 -- A request ended for which a sequence waited.
-pub record IsEnded (e : HostEvent) (before : Host) (p : Purpose) : Type 0 where
+pub record IsEnded (x : Notice) (before : Host) (p : Purpose) : Type 0 where
   pub number : ℕ
   pub how : Outcome
-  pub is : e ≡ host_event.Ended number how
+  pub is : x ≡ at_event (host_event.Ended number how)
   pub awaited : awaited number before ≡ Some p
 
 -- It was answered.
-pub record IsAnswered (e : HostEvent) (before : Host) (p : Purpose) : Type 0 where
+pub record IsAnswered (x : Notice) (before : Host) (p : Purpose) : Type 0 where
   pub number : ℕ
   pub result : ℕ
   pub payload : List ℕ
-  pub is : e ≡ host_event.Ended number (outcome.Answered result payload)
+  pub is : x ≡ at_event (host_event.Ended number (outcome.Answered result payload))
   pub awaited : awaited number before ≡ Some p
 
 -- A connection drains, and no request of the application processor is open on it.
-pub record IsDrained (e : HostEvent) (before : Host) (l : Link) : Type 0 where
+pub record IsDrained (x : Notice) (before : Host) (l : Link) : Type 0 where
   pub number : ℕ
-  pub is : e ≡ host_event.Idle number
+  pub is : x ≡ at_event (host_event.Idle number)
   pub found : link_of number before ≡ Some l
   pub drains : is_draining l.state ≡ true
 
 -- Why a request is made: a sequence begins, or goes on with the next step.
-pub data IsAskedAt (e : HostEvent) (before : Host) (p : Purpose) : Type 0 where
-  to_enumerate : (i : ℕ) → e ≡ host_event.Inserted i → p ≡ purpose i 0 steps.EnableVsys
-      → IsAskedAt e before p
-  to_connect : (i c : ℕ) → e ≡ host_event.Connect i c → p ≡ purpose i c steps.CreateConnection
-      → IsAskedAt e before p
-  to_disconnect : (i c : ℕ) (l : Link) → e ≡ host_event.Disconnect i c
+pub data IsAskedAt (x : Notice) (before : Host) (p : Purpose) : Type 0 where
+  to_enumerate : (q i : ℕ) → x ≡ at_insertion q i → p ≡ purpose i 0 steps.EnableVsys
+      → IsAskedAt x before p
+  to_connect : (i c : ℕ) → x ≡ at_event (host_event.Connect i c)
+      → p ≡ purpose i c steps.CreateConnection → IsAskedAt x before p
+  to_disconnect : (i c : ℕ) (l : Link) → x ≡ at_event (host_event.Disconnect i c)
       → link_at i c before ≡ Some l → p ≡ purpose i c steps.TellDisconnecting
-      → IsAskedAt e before p
-  to_close : (d l : Link) → IsDrained e before d → link_at d.intf d.cport before ≡ Some l
-      → p ≡ purpose d.intf d.cport steps.TellDisconnecting → IsAskedAt e before p
-  to_go_on : (last : Purpose) (step : SequenceStep) → IsAnswered e before last
-      → step_behind last.step ≡ Some step → p ≡ at_step step last → IsAskedAt e before p
+      → IsAskedAt x before p
+  to_close : (d l : Link) → IsDrained x before d → link_at d.intf d.cport before ≡ Some l
+      → p ≡ purpose d.intf d.cport steps.TellDisconnecting → IsAskedAt x before p
+  to_go_on : (last : Purpose) (step : SequenceStep) → IsAnswered x before last
+      → step_behind last.step ≡ Some step → p ≡ at_step step last → IsAskedAt x before p
 
 -- What changes are made for: the application processor takes notice of something, or the request of
 -- a purpose can't be made.
 pub data Occasion : Type 0 where
-  at_event : (e : HostEvent) (before : Host) → Occasion
+  at_notice : (x : Notice) (before : Host) → Occasion
   at_unsent : (p : Purpose) → Occasion
 
 -- something is noticed, and nothing has changed yet
-abbrev pub Notices : Occasion → HostEvent → Host → Type 0
-Notices (at_event e before) f h = (e ≡ f) × (h ≡ before)
-Notices (at_unsent p) f h = ⊥
+abbrev pub Notices : Occasion → Notice → Host → Type 0
+Notices (at_notice x before) y h = (x ≡ y) × (h ≡ before)
+Notices (at_unsent p) y h = ⊥
 
 -- a connection that drains is idle, and nothing has changed yet
 abbrev pub Drained : Occasion → Link → Host → Type 0
-Drained (at_event e before) d h = IsDrained e before d × (h ≡ before)
+Drained (at_notice x before) d h = IsDrained x before d × (h ≡ before)
 Drained (at_unsent p) d h = ⊥
 
 -- Why a connection is closing: it is disconnected, or it was draining and is idle.
 pub data IsClosingFor (o : Occasion) (h : Host) (i c : ℕ) : Type 0 where
-  by_disconnect : Notices o (host_event.Disconnect i c) h → IsClosingFor o h i c
+  by_disconnect : Notices o (at_event (host_event.Disconnect i c)) h → IsClosingFor o h i c
   by_idle : (d : Link) → Drained o d h → d.intf ≡ i → d.cport ≡ c → IsClosingFor o h i c
 
 -- the last step of a sequence was answered, and the sequence waits for nothing
 abbrev pub Completes : Occasion → Purpose → SequenceStep → Host → Type 0
-Completes (at_event e before) p last h =
-    IsAnswered e before p × (p.step ≡ last) × (h ≡ awaits_nothing p before)
+Completes (at_notice x before) p last h =
+    IsAnswered x before p × (p.step ≡ last) × (h ≡ awaits_nothing p before)
 Completes (at_unsent p) q last h = ⊥
 
 -- the enumeration of an interface fails
 abbrev pub FailsAt : Occasion → ℕ → Type 0
-FailsAt (at_event e before) i =
-    (p : Purpose) × IsEnded e before p × (is_enumeration p.step ≡ true) × (p.intf ≡ i)
+FailsAt (at_notice x before) i =
+    (p : Purpose) × IsEnded x before p × (is_enumeration p.step ≡ true) × (p.intf ≡ i)
 FailsAt (at_unsent p) i = (is_enumeration p.step ≡ true) × (p.intf ≡ i)
 
 -- a request is made
 abbrev pub AsksAt : Occasion → Purpose → Type 0
-AsksAt (at_event e before) p = IsAskedAt e before p
+AsksAt (at_notice x before) p = IsAskedAt x before p
 AsksAt (at_unsent q) p = ⊥
 
 -- Why a change is made, where the application processor is so far.
 abbrev pub IsFor : Occasion → Host → HostChange → Type 0
-IsFor o h (arrives i) = Notices o (host_event.Inserted i) h
-IsFor o h (departs i) = Notices o (host_event.Removed i) h
+IsFor o h (arrives p i) = Notices o (at_insertion p i) h
+IsFor o h (departs i) = Notices o (at_removal i) h
 IsFor o h (fails i) = FailsAt o i
 IsFor o h (closes i c l) = IsClosingFor o h i c
 IsFor o h (leaves p l) = Completes o p steps.DestroyConnection h

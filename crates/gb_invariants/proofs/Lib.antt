@@ -11,6 +11,8 @@ pub mod HostChanges
 pub mod Items
 pub mod Labels
 pub mod Lists
+pub mod ModuleHosts
+pub mod ModuleTurns
 pub mod Numbers
 pub mod OneItem
 pub mod Outcomes

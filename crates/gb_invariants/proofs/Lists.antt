@@ -1,6 +1,6 @@
 -- Laws of members of lists, of lists with one member changed, and of counts.
 use Rattle.std.proofs.Common.{Bool, List, Some, ap, cond, false, inl, inr, not, refl, subst, sym}
-use Rattle.std.proofs.Common.{true, ⊎_elim, [], ◌++◌, ◌∙◌, ◌∷◌, ◌≡◌, ◌⊎◌}
+use Rattle.std.proofs.Common.{true, ℕ, ⊎_elim, [], ◌++◌, ◌∙◌, ◌∷◌, ◌≡◌, ◌≢◌, ◌⊎◌}
 use Rattle.std.specs.List.{filter, find}
 use Rattle.gb_machine.specs.Members.{Each, EachTwo, IsIn}
 use Rattle.gb_machine.specs.Lists.{at_first, without}
@@ -53,6 +53,17 @@ pub in-pushed : {A : Type 0} (x : A) (xs : List A) (y : A) → IsIn x (xs ++ y �
     → IsIn x xs ⊎ (x ≡ y)
 in-pushed x xs y i = ⊎_elim (λ a. inl a) (λ b. ⊎_elim (λ e. inr e) (λ n. absurd n) b)
     (in-append x xs (y ∷ []) i)
+
+-- where no two have the same key, members with the same are one
+pub one-by : {A : Type 0} (key : A → ℕ) (xs : List A) (x y : A)
+    → EachTwo (λ a b. key a ≢ key b) xs → IsIn x xs → IsIn y xs → key x ≡ key y → x ≡ y
+one-by key [] x y differ i j same = absurd i
+one-by key (z ∷ zs) x y differ (inl e) (inl f) same = e ∙ sym f
+one-by key (z ∷ zs) x y differ (inl e) (inr j) same =
+    absurd (each-in (λ a. key z ≢ key a) zs y differ.0 j (ap key (sym e) ∙ same))
+one-by key (z ∷ zs) x y differ (inr i) (inl f) same =
+    absurd (each-in (λ a. key z ≢ key a) zs x differ.0 i (ap key (sym f) ∙ sym same))
+one-by key (z ∷ zs) x y differ (inr i) (inr j) same = one-by key zs x y differ.1 i j same
 
 -- ---- what passes a test
 

@@ -22,8 +22,8 @@ use Rattle.gb_machine.specs.Host.{Host, cport_of, free_cport, free_device, in_st
 use Rattle.gb_machine.specs.Host.{is_draining, link_at, link_of, staged, with_interface, with_link}
 use Rattle.gb_machine.specs.Host.{with_new_interface, without_link}
 use Rattle.gb_machine.specs.HostTurns.{connects, connects_on, disconnects, drained, ended_for}
-use Rattle.gb_machine.specs.HostTurns.{host_disconnects, host_drains, host_idle, host_turn}
-use Rattle.gb_machine.specs.HostTurns.{without_interface}
+use Rattle.gb_machine.specs.HostTurns.{host_disconnects, host_drains, host_idle, host_inserted}
+use Rattle.gb_machine.specs.HostTurns.{host_removed, without_interface}
 use Rattle.gb_machine.specs.SequenceSteps.{at_step, is_enumeration, is_reply, purpose}
 use Rattle.gb_machine.specs.Sequences.{asked_on, begins_control, begins_device, link_left}
 use Rattle.gb_machine.specs.Sequences.{link_turn, manifest_checked, opened, opened_told, payload_in}
@@ -32,13 +32,14 @@ use Rattle.gb_machine.specs.Sequences.{way_of}
 use Rattle.gb_machine.specs.Turns.{Act, Turn, failed_turn, telling, turn}
 use Rattle.gb_machine.specs.Waits.{awaited, awaits_nothing}
 use Rattle.gb_invariants.proofs.HostChanges.{AsksAt, FailsAt, IsAnswered, IsAskedAt, IsClosingFor}
-use Rattle.gb_invariants.proofs.HostChanges.{IsDrained, IsOfNone, Keeps, MayTurnTo, Occasion}
-use Rattle.gb_invariants.proofs.HostChanges.{TurnLaw, arrives, asks, at_event, at_unsent}
+use Rattle.gb_invariants.proofs.HostChanges.{IsDrained, IsOfNone, Keeps, MayTurnTo, Notice}
+use Rattle.gb_invariants.proofs.HostChanges.{Occasion, TurnLaw, arrives, asks, at_event}
+use Rattle.gb_invariants.proofs.HostChanges.{at_insertion, at_notice, at_removal, at_unsent}
 use Rattle.gb_invariants.proofs.HostChanges.{by_disconnect, by_idle, closes, departs, end_of}
-use Rattle.gb_invariants.proofs.HostChanges.{enumerates, fails, is_creating, leaves, makes, rests}
-use Rattle.gb_invariants.proofs.HostChanges.{resumes, step_behind, tells, to_close, to_connect}
-use Rattle.gb_invariants.proofs.HostChanges.{to_disconnect, to_enumerate, to_go_on, turns_to}
-use Rattle.gb_invariants.proofs.HostChanges.{updates}
+use Rattle.gb_invariants.proofs.HostChanges.{enumerates, event_turn, fails, is_creating, leaves}
+use Rattle.gb_invariants.proofs.HostChanges.{makes, rests, resumes, step_behind, tells, to_close}
+use Rattle.gb_invariants.proofs.HostChanges.{to_connect, to_disconnect, to_enumerate, to_go_on}
+use Rattle.gb_invariants.proofs.HostChanges.{turn_of, turns_to, updates}
 
 -- ---- what fails
 
@@ -116,9 +117,11 @@ module _ (o : Occasion) (law : TurnLaw o) where
       by (Some k) = law.ends (asks k p) h (why, plain)
 
 keeps-all : (f : Interface → Interface) → ((x : Interface) → (f x).intf ≡ x.intf)
+    → ((x : Interface) → (f x).primary ≡ x.primary)
     → ((x : Interface) → (f x).awaits ≡ x.awaits) → ((x : Interface) → (f x).stage ≡ x.stage)
     → Keeps f
-keeps-all f intf awaits stage = record { intf = intf; awaits = awaits; stage = stage }
+keeps-all f intf primary awaits stage =
+    record { intf = intf; primary = primary; awaits = awaits; stage = stage }
 
 -- the step of a connection isn't one of an enumeration
 no-enumeration : {A : Type 0} → false ≡ true → A
@@ -138,7 +141,7 @@ over-unsent p h law = by p.step refl
     by steps.CreateConnection e = resting (at_unsent p) law h
     by steps.GiveDevice e = updated (at_unsent p) law p.intf without_device h
         (failed_turn (interface_fails p (with_interface p.intf without_device h)))
-        (keeps-all without_device (λ x. refl) (λ x. refl) (λ x. refl))
+        (keeps-all without_device (λ x. refl) (λ x. refl) (λ x. refl) (λ x. refl))
         (fail (with_interface p.intf without_device h) (ap is_enumeration e))
     by step e = step-fails (at_unsent p) law step p h (λ is. (ap is_enumeration e ∙ is, refl))
 
@@ -150,14 +153,14 @@ pub payload-answered : (how : Outcome) {payload : List ℕ} → payload_in how �
 payload-answered (outcome.Answered result bytes) e = (result, bytes, refl)
 payload-answered _ e = absurd cc
 
-module _ (e : HostEvent) (before : Host) (law : TurnLaw (at_event e before)) where
+module _ (x : Notice) (before : Host) (law : TurnLaw (at_notice x before)) where
   -- what follows a step that was answered
-  module _ (p : Purpose) (answered : IsAnswered e before p) where
+  module _ (p : Purpose) (answered : IsAnswered x before p) where
     abbrev here : Host
     here = awaits_nothing p before
 
     fail : (step : SequenceStep) → p.step ≡ step → is_enumeration step ≡ true
-        → FailsAt (at_event e before) p.intf
+        → FailsAt (at_notice x before) p.intf
     fail step at is = (
       p,
       record {
@@ -171,7 +174,7 @@ module _ (e : HostEvent) (before : Host) (law : TurnLaw (at_event e before)) whe
     )
 
     next : (step later : SequenceStep) → p.step ≡ step → step_behind step ≡ Some later
-        → IsAskedAt e before (at_step later p)
+        → IsAskedAt x before (at_step later p)
     next step later at is = to_go_on p later answered (ap step_behind at ∙ is) refl
 
     -- the next step is asked
@@ -179,7 +182,7 @@ module _ (e : HostEvent) (before : Host) (law : TurnLaw (at_event e before)) whe
         → is_creating later ≡ false → (is_enumeration later ≡ true → is_enumeration step ≡ true)
         → law.says h (step_asked (at_step later p) h)
     goes step later h at is plain same =
-        asked (at_event e before) law (at_step later p) h (next step later at is) plain
+        asked (at_notice x before) law (at_step later p) h (next step later at is) plain
         (λ s. fail step at (same s))
 
     -- or its interface fails
@@ -187,15 +190,15 @@ module _ (e : HostEvent) (before : Host) (law : TurnLaw (at_event e before)) whe
         → is_enumeration step ≡ true
         → law.says h (failed_turn (interface_fails (at_step later p) h))
     interface-failed step later h at is =
-        interface-fails (at_event e before) law (at_step later p) h (fail step at is)
+        interface-fails (at_notice x before) law (at_step later p) h (fail step at is)
 
     checked : (r : Result Manifest Refused) (bytes : List ℕ) → p.step ≡ steps.AskManifest
         → law.says here (manifest_checked r p bytes here)
     checked (Ok m) bytes at = law.ends (enumerates p bytes) here (answered, at, refl)
     checked (Err why) bytes at =
-        told (at_event e before) law (entry.Manifest p.intf why.at why.reason) here
+        told (at_notice x before) law (entry.Manifest p.intf why.at why.reason) here
         (failed_turn (interface_fails p here)) tt
-        (interface-fails (at_event e before) law p here (fail steps.AskManifest at refl))
+        (interface-fails (at_notice x before) law p here (fail steps.AskManifest at refl))
 
     done : (step : SequenceStep) (payload : List ℕ) → p.step ≡ step
         → law.says here (step_done step p payload here)
@@ -212,14 +215,14 @@ module _ (e : HostEvent) (before : Host) (law : TurnLaw (at_event e before)) whe
         by None = interface-failed steps.Activate steps.GiveDevice here at refl
         by (Some d) =
             let f = λ (x : Interface). record x { device = Some d } in
-            updated (at_event e before) law p.intf f here _
-            (keeps-all f (λ x. refl) (λ x. refl) (λ x. refl))
+            updated (at_notice x before) law p.intf f here _
+            (keeps-all f (λ x. refl) (λ x. refl) (λ x. refl) (λ x. refl))
             (goes steps.Activate steps.GiveDevice (with_interface p.intf f here) at refl refl
             (λ s. refl))
     done steps.GiveDevice payload at =
         let f = λ (x : Interface). record x { has_device = true } in
-        updated (at_event e before) law p.intf f here _
-        (keeps-all f (λ x. refl) (λ x. refl) (λ x. refl))
+        updated (at_notice x before) law p.intf f here _
+        (keeps-all f (λ x. refl) (λ x. refl) (λ x. refl) (λ x. refl))
         (goes steps.GiveDevice steps.CreateRoute (with_interface p.intf f here) at refl refl
         (λ s. refl))
     done steps.CreateRoute payload at = by (free_cport here)
@@ -238,16 +241,16 @@ module _ (e : HostEvent) (before : Host) (law : TurnLaw (at_event e before)) whe
 
         by : (o : Option Link) → link_at p.intf p.cport here ≡ o → law.says here
             (opened_told o (step_asked (at_step steps.AskVersion p) (opened p here)))
-        by None f = turned (at_event e before) law p.intf p.cport state.Open None here _ f
+        by None f = turned (at_notice x before) law p.intf p.cport state.Open None here _ f
             tt asks-version
-        by (Some l) f = turned (at_event e before) law p.intf p.cport state.Open (Some l) here _ f
+        by (Some l) f = turned (at_notice x before) law p.intf p.cport state.Open (Some l) here _ f
             tt asks-version
     done steps.AskVersion payload at =
         goes steps.AskVersion steps.AskSize here at refl refl (λ s. refl)
     done steps.AskSize payload at =
         let f = λ (x : Interface). record x { size = size_in (read_control_reply 0x03 payload) } in
-        updated (at_event e before) law p.intf f here _
-        (keeps-all f (λ x. refl) (λ x. refl) (λ x. refl))
+        updated (at_notice x before) law p.intf f here _
+        (keeps-all f (λ x. refl) (λ x. refl) (λ x. refl) (λ x. refl))
         (goes steps.AskSize steps.AskManifest (with_interface p.intf f here) at refl refl
         (λ s. refl))
     done steps.AskManifest payload at =
@@ -257,19 +260,19 @@ module _ (e : HostEvent) (before : Host) (law : TurnLaw (at_event e before)) whe
             (manifest_checked (check_answer payload) p payload here)
             (failed_turn (interface_fails p here)))
         by true = checked (check_answer payload) payload at
-        by false = interface-fails (at_event e before) law p here (fail steps.AskManifest at refl)
+        by false = interface-fails (at_notice x before) law p here (fail steps.AskManifest at refl)
     done steps.CreateConnection payload at =
         goes steps.CreateConnection steps.TellConnected here at refl refl no-enumeration
     done steps.TellConnected payload at = by (link_at p.intf p.cport here) refl
       where
         by : (o : Option Link) → link_at p.intf p.cport here ≡ o
             → law.says here (link_turn state.Open o (opened p here))
-        by None f = turned (at_event e before) law p.intf p.cport state.Open None here
+        by None f = turned (at_notice x before) law p.intf p.cport state.Open None here
             (turn (opened p here) []) f tt
-            (resting (at_event e before) law (opened p here))
-        by (Some l) f = turned (at_event e before) law p.intf p.cport state.Open (Some l) here
+            (resting (at_notice x before) law (opened p here))
+        by (Some l) f = turned (at_notice x before) law p.intf p.cport state.Open (Some l) here
             (turn (opened p here) []) f tt
-            (resting (at_event e before) law (opened p here))
+            (resting (at_notice x before) law (opened p here))
     done steps.TellDisconnecting payload at =
         goes steps.TellDisconnecting steps.TellDisconnected here at refl refl no-enumeration
     done steps.TellDisconnected payload at =
@@ -282,23 +285,23 @@ module _ (e : HostEvent) (before : Host) (law : TurnLaw (at_event e before)) whe
         by : (o : Option Link) → link_at p.intf p.cport here ≡ o
             → law.says here (link_left o gone)
         by None f = law.over (leaves p None) here (turn gone []) f (answered, at, refl)
-            (resting (at_event e before) law gone)
+            (resting (at_notice x before) law gone)
         by (Some l) f = law.over (leaves p (Some l)) here (turn gone []) f (answered, at, refl)
-            (resting (at_event e before) law gone)
+            (resting (at_notice x before) law gone)
 
-  ended : (n : ℕ) (how : Outcome) → e ≡ host_event.Ended n how → (o : Option Purpose)
+  ended : (n : ℕ) (how : Outcome) → x ≡ at_event (host_event.Ended n how) → (o : Option Purpose)
       → awaited n before ≡ o → law.says before (ended_for o how before)
-  ended n how is None found = resting (at_event e before) law before
+  ended n how is None found = resting (at_notice x before) law before
   ended n how is (Some p) found =
       law.over (resumes p) before (step_answered (payload_in how) p (awaits_nothing p before)) tt tt
       (by (payload_in how) refl)
     where
-      fail : is_enumeration p.step ≡ true → FailsAt (at_event e before) p.intf
+      fail : is_enumeration p.step ≡ true → FailsAt (at_notice x before) p.intf
       fail s = (p, record { number = n; how = how; is = is; awaited = found }, s, refl)
 
       by : (o : Option (List ℕ)) → payload_in how ≡ o
           → law.says (awaits_nothing p before) (step_answered o p (awaits_nothing p before))
-      by None f = step-fails (at_event e before) law p.step p (awaits_nothing p before) fail
+      by None f = step-fails (at_notice x before) law p.step p (awaits_nothing p before) fail
       by (Some payload) f = on (is_reply p.step payload)
         where
           on : (t : Bool) → law.says (awaits_nothing p before) (cond t
@@ -309,37 +312,37 @@ module _ (e : HostEvent) (before : Host) (law : TurnLaw (at_event e before)) whe
                 number = n;
                 result = a.0;
                 payload = a.1;
-                is = is ∙ ap (host_event.Ended n) a.2;
+                is = is ∙ ap (λ o. at_event (host_event.Ended n o)) a.2;
                 awaited = found;
               }) p.step payload refl
-          on false = step-fails (at_event e before) law p.step p (awaits_nothing p before) fail
+          on false = step-fails (at_notice x before) law p.step p (awaits_nothing p before) fail
 
   -- ---- what else is noticed
 
-  connected : (i c : ℕ) → e ≡ host_event.Connect i c → (o : Option CportView)
+  connected : (i c : ℕ) → x ≡ at_event (host_event.Connect i c) → (o : Option CportView)
       → law.says before (connects o (purpose i c steps.CreateConnection) before)
-  connected i c is None = resting (at_event e before) law before
+  connected i c is None = resting (at_notice x before) law before
   connected i c is (Some view) = by (free_cport before)
     where
       by : (o : Option ℕ) → law.says before
           (connects_on o view.protocol (purpose i c steps.CreateConnection) before)
-      by None = resting (at_event e before) law before
+      by None = resting (at_notice x before) law before
       by (Some a) = law.ends (makes a view.protocol (purpose i c steps.CreateConnection)) before
           (to_connect i c is refl)
 
   -- a connection closes, for a reason that it has
-  closed : (i c : ℕ) → IsClosingFor (at_event e before) before i c
+  closed : (i c : ℕ) → IsClosingFor (at_notice x before) before i c
       → ((l : Link) → link_at i c before ≡ Some l
-      → IsAskedAt e before (purpose i c steps.TellDisconnecting))
+      → IsAskedAt x before (purpose i c steps.TellDisconnecting))
       → law.says before (host_disconnects i c before)
   closed i c why ask = by (link_at i c before) refl
     where
       by : (o : Option Link) → link_at i c before ≡ o
           → law.says before (disconnects o (purpose i c steps.TellDisconnecting) before)
-      by None found = resting (at_event e before) law before
+      by None found = resting (at_notice x before) law before
       by (Some l) found =
           law.over (closes i c l) before _ found why
-          (asked (at_event e before) law (purpose i c steps.TellDisconnecting)
+          (asked (at_notice x before) law (purpose i c steps.TellDisconnecting)
           (with_link i c (in_state state.Closing) before) (ask l found) refl no-enumeration)
 
   draining : (i c : ℕ) → law.says before (host_drains i c before)
@@ -350,57 +353,59 @@ module _ (e : HostEvent) (before : Host) (law : TurnLaw (at_event e before)) whe
 
       by : (o : Option Link) → link_at i c before ≡ o
           → law.says before (link_turn state.Draining o after)
-      by None found = turned (at_event e before) law i c state.Draining None before (turn after [])
-          found tt (resting (at_event e before) law after)
+      by None found = turned (at_notice x before) law i c state.Draining None before (turn after [])
+          found tt (resting (at_notice x before) law after)
       by (Some l) found =
-          turned (at_event e before) law i c state.Draining (Some l) before (turn after []) found tt
-          (resting (at_event e before) law after)
+          turned (at_notice x before) law i c state.Draining (Some l) before (turn after []) found
+          tt (resting (at_notice x before) law after)
 
-  idle : (k : ℕ) → e ≡ host_event.Idle k → law.says before (host_idle k before)
+  idle : (k : ℕ) → x ≡ at_event (host_event.Idle k) → law.says before (host_idle k before)
   idle k is = by (link_of k before) refl
     where
       on : (d : Link) → link_of k before ≡ Some d → (t : Bool) → is_draining d.state ≡ t
           → law.says before (cond t (host_disconnects d.intf d.cport before) (turn before []))
-      on d found false drains = resting (at_event e before) law before
+      on d found false drains = resting (at_notice x before) law before
       on d found true drains =
-          let why : IsDrained e before d =
+          let why : IsDrained x before d =
           record { number = k; is = is; found = found; drains = drains } in
           closed d.intf d.cport (by_idle d (why, refl) refl refl)
           (λ l at. to_close d l why at refl)
 
       by : (o : Option Link) → link_of k before ≡ o → law.says before (drained o before)
-      by None found = resting (at_event e before) law before
+      by None found = resting (at_notice x before) law before
       by (Some d) found = on d found (is_draining d.state) refl
 
-  inserted : (i : ℕ) → e ≡ host_event.Inserted i
-      → law.says before (host_turn (host_event.Inserted i) before)
-  inserted i is =
-      let p = purpose i 0 steps.EnableVsys in
-      let g = with_new_interface i before in
-      told (at_event e before) law (entry.Interface i stage.Enumerating) before
-      (end_of (asks 1 p) g) tt (law.over (arrives i) before (end_of (asks 1 p) g) tt (is, refl)
-      (law.ends (asks 1 p) g (to_enumerate i is refl, refl)))
+  inserted : (p i : ℕ) → x ≡ at_insertion p i → law.says before (host_inserted p i before)
+  inserted p i is =
+      let q = purpose i 0 steps.EnableVsys in
+      let g = with_new_interface p i before in
+      told (at_notice x before) law (entry.Interface i stage.Enumerating) before
+      (end_of (asks 1 q) g) tt (law.over (arrives p i) before (end_of (asks 1 q) g) tt (is, refl)
+      (law.ends (asks 1 q) g (to_enumerate p i is refl, refl)))
 
-  removed : (i : ℕ) → e ≡ host_event.Removed i
-      → law.says before (host_turn (host_event.Removed i) before)
+  removed : (i : ℕ) → x ≡ at_removal i → law.says before (host_removed i before)
   removed i is =
       let g = without_interface i before in
       law.over (departs i) before (turn g (Act.Tell (entry.Interface i stage.Removed) ∷ [])) tt
-      (is, refl) (told (at_event e before) law (entry.Interface i stage.Removed) g (turn g []) tt
-      (resting (at_event e before) law g))
+      (is, refl) (told (at_notice x before) law (entry.Interface i stage.Removed) g (turn g []) tt
+      (resting (at_notice x before) law g))
 
-  turned-by : (f : HostEvent) → e ≡ f → law.says before (host_turn f before)
-  turned-by (host_event.Inserted i) is = inserted i is
-  turned-by (host_event.Removed i) is = removed i is
-  turned-by (host_event.Connect i c) is =
+  at-event : (f : HostEvent) → x ≡ at_event f → law.says before (event_turn f before)
+  at-event (host_event.Inserted p count) is = resting (at_notice x before) law before
+  at-event (host_event.Removed p) is = resting (at_notice x before) law before
+  at-event (host_event.Connect i c) is =
       connected i c is (option_and_then (cport_of c) (interface_of i before))
-  turned-by (host_event.Disconnect i c) is =
+  at-event (host_event.Disconnect i c) is =
       closed i c (by_disconnect (is, refl)) (λ l found. to_disconnect i c l is found refl)
-  turned-by (host_event.Drain i c) is = draining i c
-  turned-by (host_event.Idle k) is = idle k is
-  turned-by (host_event.Ended n how) is = ended n how is (awaited n before) refl
+  at-event (host_event.Drain i c) is = draining i c
+  at-event (host_event.Idle k) is = idle k is
+  at-event (host_event.Ended n how) is = ended n how is (awaited n before) refl
+
+  turned-by : (y : Notice) → x ≡ y → law.says before (turn_of y before)
+  turned-by (at_insertion p i) is = inserted p i is
+  turned-by (at_removal i) is = removed i is
+  turned-by (at_event f) is = at-event f is
 
 -- A law goes over each turn.
-pub over-turn : (e : HostEvent) (h : Host) (law : TurnLaw (at_event e h))
-    → law.says h (host_turn e h)
-over-turn e h law = turned-by e h law e refl
+pub over-turn : (x : Notice) (h : Host) (law : TurnLaw (at_notice x h)) → law.says h (turn_of x h)
+over-turn x h law = turned-by x h law x refl

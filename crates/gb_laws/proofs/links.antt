@@ -1,6 +1,7 @@
 -- Facts on links: what the application processor knows of its connections.
 pub mod Links
 pub mod LinkLists
+pub mod Departing
 pub mod Draining
 pub mod DrainingKept
 pub mod LinkFrom

@@ -2,6 +2,7 @@
 pub mod StepActions
 pub mod StepActLaws
 pub mod StepActs
+pub mod StepModules
 pub mod StepIdles
 pub mod StepServes
 pub mod StepSvcServes

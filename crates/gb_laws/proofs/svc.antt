@@ -9,6 +9,7 @@ pub mod Levels
 pub mod Powering
 pub mod StayPlugged
 pub mod WiredWell
+pub mod WiredPlugs
 pub mod WiredRuns
 pub mod WiredRemembered
 pub mod WiredOnce

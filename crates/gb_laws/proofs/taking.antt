@@ -5,6 +5,7 @@ pub mod Owned
 pub mod TakenQueues
 pub mod TakenTells
 pub mod TakenActs
+pub mod TakenModules
 pub mod TakenServed
 pub mod TakenKnown
 pub mod Taken

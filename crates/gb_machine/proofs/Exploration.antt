@@ -7,7 +7,8 @@ use Rattle.gb_base.specs.declared.end.End.TheVariants as end
 use Rattle.gb_base.specs.declared.event.Event.{Event}
 use Rattle.gb_base.specs.declared.event.Event.TheVariants as event
 use Rattle.gb_base.specs.declared.event.Kind.TheVariants as kind
-use Rattle.gb_machine.proofs.HotPlugTests.{facts_hold, removal_leaves, stale_is_below}
+use Rattle.gb_machine.proofs.HotPlugTests.{facts_hold, facts_hold_of, removal_leaves}
+use Rattle.gb_machine.proofs.HotPlugTests.{stale_is_below}
 use Rattle.gb_machine.proofs.Scripts.{after, report_opened, setup}
 use Rattle.gb_machine.specs.Events.{step}
 use Rattle.gb_machine.specs.State.{State, first_state}
@@ -24,13 +25,24 @@ hot_plug =
     event.Pull 2 ∷ event.Insert 2 (kind.Gpio ∷ []) ∷ event.Deliver end.Svc ∷ event.Deliver (end.Ap 0)
     ∷ event.Deliver (end.Module 2 0) ∷ []
 
--- the same, and what comes from the module's Control, and time passes
+-- the same with a module of two interfaces, which is pulled by the second, and with one at its second
+-- interface
+abbrev pub hot_plug_two : List Event
+hot_plug_two =
+    event.Pull 3 ∷ event.Insert 2 (kind.Gpio ∷ kind.Gpio ∷ []) ∷ event.Insert 3 (kind.Gpio ∷ [])
+    ∷ event.Deliver end.Svc ∷ event.Deliver (end.Ap 0) ∷ []
+
+-- the same as the first, and what comes from the module's Control, and time passes
 abbrev pub with_control : List Event
 with_control = event.Deliver (end.Ap 1) ∷ event.Tick 1000 ∷ hot_plug
 
 -- the same as the first, and a CPort is connected and disconnected
 abbrev pub with_connects : List Event
 with_connects = event.Connect 2 1 ∷ event.Disconnect 2 1 ∷ hot_plug
+
+-- the facts hold of both interfaces
+abbrev both_hold : State → Bool
+both_hold s = facts_hold_of 2 s && facts_hold_of 3 s
 
 -- the state after these lines
 abbrev pub from : List (List ℕ) → State
@@ -84,12 +96,23 @@ pub pulled_while_connecting : holds_behind 4 with_connects (facts_hold 2)
 unfolding report_opened holds_behind
 pulled_while_connecting = refl
 
+-- where a module of two interfaces was plugged, and where its enumeration is under way
+pub two_plugged : holds_behind 5 hot_plug_two both_hold
+    (from (codes "insert 2 gpio gpio" ∷ codes "boot" ∷ codes "settle 4" ∷ [])) ≡ true
+unfolding report_opened holds_behind
+two_plugged = refl
+
+pub two_enumerating : holds_behind 4 hot_plug_two both_hold
+    (from (codes "insert 2 gpio gpio" ∷ codes "boot" ∷ codes "settle 20" ∷ [])) ≡ true
+unfolding report_opened holds_behind
+two_enumerating = refl
+
 -- ---- pulls are remembered
 
 -- with the requests that told them, and none of those before the start
 pub pulls_are_remembered : (from (codes "insert 2 gpio" ∷ codes "pull 2" ∷ codes "insert 2 gpio"
-    ∷ codes "insert 3 gpio" ∷ codes "boot" ∷ codes "pull 3" ∷ codes "pull 2" ∷ [])).past.pulled
-    ≡ (5, 3) ∷ (6, 2) ∷ []
+    ∷ codes "insert 3 gpio i2c" ∷ codes "boot" ∷ codes "pull 4" ∷ codes "pull 2" ∷ [])).past.pulled
+    ≡ (5, 3) ∷ (5, 4) ∷ (6, 2) ∷ []
 unfolding report_opened
 pulls_are_remembered = refl
 

@@ -168,8 +168,12 @@ stale_is_below i level s =
 
 -- ---- all facts
 
--- the facts on hot-plug hold of an interface
-abbrev pub facts_hold : ℕ → State → Bool
-facts_hold i s =
-    are_routed s && removals_are_told i s && removal_leaves i 1 s && removal_unwires i s
+-- the facts on hot-plug hold of an interface of a module
+abbrev pub facts_hold_of : ℕ → State → Bool
+facts_hold_of i s =
+    are_routed s && removal_leaves i 1 s && removal_unwires i s
     && is_quiet i s && restarts_alone i s && awaited_is_last i s && stale_is_below i 6 s
+
+-- and of one that is a module by itself
+abbrev pub facts_hold : ℕ → State → Bool
+facts_hold i s = facts_hold_of i s && removals_are_told i s

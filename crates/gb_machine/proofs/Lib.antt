@@ -17,6 +17,7 @@ pub mod RowsEnumeration
 pub mod RowsHotPlug
 pub mod RowsInjection
 pub mod RowsLabels
+pub mod RowsModules
 pub mod RowsPings
 pub mod RowsRefusals
 pub mod RowsShared

@@ -7,7 +7,7 @@ use Rattle.gb_base.specs.declared.steps.SequenceStep.{SequenceStep}
 use Rattle.gb_machine.specs.Host.{Host, is_link, link_at, with_link}
 use Rattle.gb_machine.specs.{Bus.Bus, Bus.next_number, Failures.unsent, HostActs.made_for}
 use Rattle.gb_machine.specs.{HostActs.with_awaited, HostServing.host_serves}
-use Rattle.gb_machine.specs.{HostServing.with_credits, HostTurns.host_turn, LineActions.spent}
+use Rattle.gb_machine.specs.{HostServing.with_credits, LineActions.spent}
 use Rattle.gb_machine.specs.{Members.IsIn, Refusals.is_reserved, Runs.Moment, Sending.Draft}
 use Rattle.gb_machine.specs.{Sending.requested, SequenceSteps.is_for_connection, Turns.Act}
 use Rattle.gb_machine.specs.{Turns.Asking, Waits.awaits, Wiring.next_connection}
@@ -37,6 +37,7 @@ use Rattle.gb_laws.proofs.{creations.PairsAsked.pairs_then, creations.PairsKept.
 use Rattle.gb_laws.proofs.{points.PointParts.Point}
 use Rattle.gb_laws.proofs.{creations.Remembering.RemembersAt}
 use Rattle.gb_invariants.proofs.HostChanges.{is_creating}
+use Rattle.gb_invariants.proofs.HostChanges.{turn_of}
 
 -- what is known at a point
 pub record CreatesAll (a : Point) : Type 0 where
@@ -97,9 +98,9 @@ creates-kept m a (names name d c label free live drawn host) links r f then h = 
 }
 creates-kept m a (turns e free untouched none cause) links r f then h = record {
   fit = creates-came
-      (came-from a.state.host (host_turn e a.state.host).host (from-turn e a.state.host)) h.fit;
-  ready = orderly-ready (host_turn e a.state.host).host a.state.past.made_for
-      (host_turn e a.state.host).acts (turn-orderly e a.state.host);
+      (came-from a.state.host (turn_of e a.state.host).host (from-turn e a.state.host)) h.fit;
+  ready = orderly-ready (turn_of e a.state.host).host a.state.past.made_for
+      (turn_of e a.state.host).acts (turn-orderly e a.state.host);
 }
 creates-kept m a (acts_told e rest is quiet) links r f then h = record {
   fit = h.fit;

@@ -1,15 +1,16 @@
 -- What a turn of the application processor asks creates no connection, but behind one that it
 -- makes, of which the request then speaks.
 use Rattle.std.proofs.Common.{List, false, refl, ℕ, ◌≡◌}
-use Rattle.gb_base.specs.declared.host_event.HostEvent.{HostEvent}
 use Rattle.gb_base.specs.declared.steps.Purpose.{Purpose}
 use Rattle.gb_machine.specs.Sequences.{ap_in, opens, target}
 use Rattle.gb_machine.specs.Turns.{Act, Asking, Turn}
-use Rattle.gb_machine.specs.{Host.Host, Host.link_at, HostTurns.host_turn, Members.Each}
+use Rattle.gb_machine.specs.{Host.Host, Host.link_at, Members.Each}
 use Rattle.gb_machine.specs.{SequenceSteps.payload_of}
-use Rattle.gb_invariants.proofs.HostChanges.{AsksNone, HostEnd, IsLast, Occasion, acts_by, at_event}
+use Rattle.gb_invariants.proofs.HostChanges.{AsksNone, HostEnd, IsLast, Occasion, acts_by}
+use Rattle.gb_invariants.proofs.HostChanges.{at_notice}
 use Rattle.gb_invariants.proofs.HostChanges.{changes-ask, end_of, is_creating}
 use Rattle.gb_invariants.proofs.{Lists.each-append, Lists.each-weaker, OverTurns.over-turn}
+use Rattle.gb_invariants.proofs.HostChanges.{Notice, turn_of}
 use Rattle.gb_laws.proofs.creations.Creating.{IsMade}
 
 -- a request speaks of the connection of its purpose
@@ -55,10 +56,10 @@ none-orderly h (Act.Open w q) none = absurd none
 none-orderly h _ none = tt
 
 -- Each turn is orderly.
-pub turn-orderly : (e : HostEvent) (h : Host) → IsTurn (host_turn e h)
+pub turn-orderly : (e : Notice) (h : Host) → IsTurn (turn_of e h)
 turn-orderly e h = over-turn e h (record {
   says = λ g t. IsTurn t;
-  ends = λ x g last. end-orderly (at_event e h) x g last;
+  ends = λ x g last. end-orderly (at_notice e h) x g last;
   over = λ x g t finds why s. each-append (IsOrderly t.host) (acts_by x g) t.acts
       (each-weaker AsksNone (IsOrderly t.host) (acts_by x g) (none-orderly t.host)
       (changes-ask x g)) s;

@@ -5,11 +5,12 @@ use Rattle.gb_base.specs.declared.peers.Link.{Link}
 use Rattle.gb_machine.specs.HostActs.{host_draft, made_for, with_awaited}
 use Rattle.gb_machine.specs.Sending.{Draft, requested, sent}
 use Rattle.gb_machine.specs.{Bus.next_number, Failures.unsent, Host.link_at, Host.with_link}
-use Rattle.gb_machine.specs.{HostServing.host_serves, HostTurns.host_turn, LineActions.spent}
+use Rattle.gb_machine.specs.{HostServing.host_serves, LineActions.spent}
 use Rattle.gb_machine.specs.{Runs.Moment, SequenceSteps.is_for_connection, Turns.Asking}
 use Rattle.gb_machine.specs.{Waits.awaits, Wiring.next_connection}
 use Rattle.gb_invariants.proofs.Awaiting.{none-some, same-some, sent-new}
 use Rattle.gb_invariants.proofs.Lists.{in-pushed}
+use Rattle.gb_invariants.proofs.HostChanges.{turn_of}
 use Rattle.gb_laws.proofs.creations.Pairs.{IsAskedAs, PairsFit, asked-more, come-from, come-link}
 use Rattle.gb_laws.proofs.creations.Pairs.{come-same}
 use Rattle.gb_laws.proofs.creations.Pairs.{come-served, pairs-on}
@@ -65,9 +66,9 @@ pairs-kept m a (names name d c label free live drawn host) links r f =
     (λ q n e. asked-more q n a.state.bus (sent d label a.state.bus) a.state.past.made_for keeps
     (f.asks q n e)) f
 pairs-kept m a (turns e free untouched none cause) links r f =
-    pairs-on a.state.bus a.state.bus a.state.host (host_turn e a.state.host).host
+    pairs-on a.state.bus a.state.bus a.state.host (turn_of e a.state.host).host
     a.state.past.made_for a.asked a.asked (λ n x made. made) (omega arith)
-    (come-from a.state.host (host_turn e a.state.host).host (from-turn e a.state.host)) f.asks f
+    (come-from a.state.host (turn_of e a.state.host).host (from-turn e a.state.host)) f.asks f
 pairs-kept m a (acts_opened w q rest free is) links r f = record {
   made = λ n k i. let x = f.made n k i in record {
     request = x.request;

@@ -6,14 +6,13 @@ use Rattle.std.proofs.Common.{suc, zero, ◌+◌, ◌<◌, ◌∙◌, ◌∷◌,
 use Rattle.std.specs.Prelude.{is_some}
 use Rattle.std.specs.List.{slice_get}
 use Rattle.gb_base.specs.declared.entry.Entry.{Entry}
-use Rattle.gb_base.specs.declared.host_event.HostEvent.{HostEvent}
 use Rattle.gb_base.specs.declared.peers.Link.{Link}
 use Rattle.gb_machine.specs.Bus.{Bus, Request, connection_of}
 use Rattle.gb_machine.specs.Host.{Host, is_link, link_at}
 use Rattle.gb_machine.specs.Runs.{IsMoment, Moment, after, told_at}
 use Rattle.gb_machine.specs.Turns.{Act, Asking}
 use Rattle.gb_machine.proofs.Lists.{nth-past}
-use Rattle.gb_machine.specs.{HostActs.made_for, HostActs.with_awaited, HostTurns.host_turn}
+use Rattle.gb_machine.specs.{HostActs.made_for, HostActs.with_awaited}
 use Rattle.gb_machine.specs.LawsHotPlug.{IsMadeWhileLive, RememberedWhileLive}
 use Rattle.gb_machine.specs.{Lists.nth, Members.IsIn, Sending.requested}
 use Rattle.gb_machine.specs.{SequenceSteps.is_for_connection, State.State, Waits.awaits}
@@ -21,6 +20,7 @@ use Rattle.gb_machine.specs.{Wiring.next_connection}
 use Rattle.gb_invariants.proofs.Lists.{each-from, found-in, in-front, in-pushed}
 use Rattle.gb_invariants.proofs.{Awaiting.none-some, Awaiting.same-some, Numbers.found-by_number}
 use Rattle.gb_invariants.specs.Facts.{NumbersRise}
+use Rattle.gb_invariants.proofs.HostChanges.{Notice, turn_of}
 use Rattle.gb_laws.proofs.links.LinkKept.{InsertsAbsent, LinkedAt, same-links, turn-fits}
 use Rattle.gb_laws.proofs.links.LinkLeaves.{WhyLeft, closed, removed, why-left}
 use Rattle.gb_laws.proofs.links.LinkRuns.{LinkedTo, linked-over, linked-throughout, start-absent}
@@ -63,8 +63,8 @@ linked-stay k stay x =
     record { link = y.0; known = y.1; number = y.2.connection ∙ x.number }
 
 -- but where a turn gives them up, and no request was made since
-stays-known : (m : Moment) (e : HostEvent) (b : Bus) (h : Host) (k : ℕ) → HostFits b h
-    → IsOver m e b → IsIn (Act.Leave k) (host_turn e h).acts
+stays-known : (m : Moment) (e : Notice) (b : Bus) (h : Host) (k : ℕ) → HostFits b h
+    → IsOver m e b → IsIn (Act.Leave k) (turn_of e h).acts
     → b.requests ≡ m.before.bus.requests
 stays-known m e b h k fits over j = by (why-left b e h k fits j)
   where
@@ -74,15 +74,15 @@ stays-known m e b h k fits over j = by (why-left b e h k fits j)
         ((subst (λ f. IsOver m f b) is over) result payload refl).1
 
 -- where a request is new, a turn keeps its connection known
-linked-turned : (m : Moment) → InsertsAbsent m → (e : HostEvent) {b : Bus} {h : Host} (n k : ℕ)
+linked-turned : (m : Moment) → InsertsAbsent m → (e : Notice) {b : Bus} {h : Host} (n k : ℕ)
     → Linked b h [] → IsCaused m e h → IsOver m e b → length m.before.bus.requests < n
-    → n ≤ length b.requests → IsLinked k h → IsLinked k (host_turn e h).host
+    → n ≤ length b.requests → IsLinked k h → IsLinked k (turn_of e h).host
 linked-turned m absent e {b} {h} n k links cause over new made x =
     by ((turn-fits m b e h absent cause links.host).followed x.link
     (subst (λ ls. IsIn x.link ls) (sym (same-links e h)) x.known))
   where
-    by : IsFollowed x.link (host_turn e h).host.links (host_turn e h).acts
-        → IsLinked k (host_turn e h).host
+    by : IsFollowed x.link (turn_of e h).host.links (turn_of e h).acts
+        → IsLinked k (turn_of e h).host
     by (stays l i same) =
         record { link = l; known = i; number = same.connection ∙ x.number }
     by (leaves i) =

@@ -4,30 +4,29 @@ use Rattle.std.proofs.Common.{Bool, None, Option, Some, ap, arith, false, inl, i
 use Rattle.std.proofs.Common.{sym, true, ℕ, ⊎_elim, [], ◌∙◌, ◌≡◌, ◌≤◌, ◌⊎◌}
 use Rattle.std.specs.{List.find, Prelude.not, Prelude.◌==◌}
 use Rattle.gb_base.specs.declared.host_event.HostEvent.TheVariants as host_event
-use Rattle.gb_base.specs.declared.host_event.HostEvent.{HostEvent}
 use Rattle.gb_base.specs.declared.peers.{Interface.Interface, Link.Link}
 use Rattle.gb_base.specs.declared.steps.Purpose.{Purpose}
 use Rattle.gb_base.specs.declared.end.Side.TheVariants as side
 use Rattle.gb_base.specs.declared.steps.SequenceStep.TheVariants as steps
-use Rattle.gb_machine.specs.{Bus.Ask, Bus.request_of, Host.Host, Host.is_intf, HostTurns.host_turn}
+use Rattle.gb_machine.specs.{Bus.Ask, Bus.request_of, Host.Host, Host.is_intf}
 use Rattle.gb_machine.specs.{HostTurns.without_interface, Members.IsIn, Ports.level_of, Runs.Moment}
 use Rattle.gb_machine.specs.{SequenceSteps.asks_control, SequenceSteps.is_enumeration, State.State}
 use Rattle.gb_machine.specs.SvcQueues.{svc_items}
 use Rattle.gb_invariants.proofs.Outcomes.{both-true, is-same, same-number}
 use Rattle.gb_invariants.proofs.{Awaiting.not-both, Found.find-none, HostChanges.IsAnswered}
 use Rattle.gb_invariants.proofs.{Lists.found-in, Lists.in-without}
+use Rattle.gb_invariants.proofs.HostChanges.{Notice, at_removal, turn_of}
 use Rattle.gb_laws.proofs.links.LinkKept.{InsertsAbsent, same-links, turn-fits}
 use Rattle.gb_laws.proofs.links.LinkLeaves.{WhyLeft, closed, removed, why-left}
-use Rattle.gb_laws.proofs.links.Links.{IsFollowed, IsPresent, leaves, stays}
-use Rattle.gb_laws.proofs.points.PointParts.{IsCaused, IsNoticed, Point, resting}
+use Rattle.gb_laws.proofs.links.Links.{IsFollowed, leaves, stays}
+use Rattle.gb_laws.proofs.points.PointParts.{IsCaused, IsDeparting, Point, resting}
 use Rattle.gb_laws.proofs.creations.Stale.{HasNoStale, IsCool, StaleAt}
 use Rattle.gb_laws.proofs.{enumerations.Asked.asks-calm, enumerations.Asked.turn-waits}
 use Rattle.gb_laws.proofs.{enumerations.AskedWaits.AsksIn}
 use Rattle.gb_laws.proofs.{enumerations.AskedWaits.is_power_step, enumerations.Enums.AreStarts}
 use Rattle.gb_laws.proofs.{enumerations.Enums.enums, links.LinkFrom.Linked}
-use Rattle.gb_laws.proofs.{links.LinkLists.one-link, marks.MarkMoments.present-known}
-use Rattle.gb_laws.proofs.{marks.MarkNotices.removal-handled, marks.Marks.MarksFit}
-use Rattle.gb_laws.proofs.{marks.Marks.known_at}
+use Rattle.gb_laws.proofs.{links.Departing.departing-handled, links.LinkLists.one-link}
+use Rattle.gb_laws.proofs.{marks.Marks.MarksFit}
 use Rattle.gb_laws.proofs.{points.Points.IsOver}
 use Rattle.gb_laws.proofs.{removals.Quiet.IsQuiet, removals.Quiet.is_removed}
 use Rattle.gb_laws.proofs.{removals.QuietAwaited.waited-by}
@@ -35,32 +34,32 @@ use Rattle.gb_laws.proofs.{removals.QuietRuns.waits-before, creations.StaleBase.
 use Rattle.gb_laws.proofs.{creations.StaleBase.StaleBase, svc.SvcOrder.none-earlier}
 
 -- no removal is handled where a request was answered
-answered-stays : {e : HostEvent} {h : Host} {p : Purpose} {i : ℕ} → IsAnswered e h p
-    → e ≡ host_event.Removed i → ⊥
+answered-stays : {e : Notice} {h : Host} {p : Purpose} {i : ℕ} → IsAnswered e h p
+    → e ≡ at_removal i → ⊥
 answered-stays r gone = let same = sym r.is ∙ gone in absurd cc
 
 module _ (m : Moment) (absent : InsertsAbsent m) (i : ℕ)
     (marks : MarksFit m.before) (start : StaleBase m (resting m.told m.before))
     (quiet : IsQuiet i (resting m.told m.before)) where
-  pub cool-turned : (a : Point) (e : HostEvent) (b : Point) → StaleBase m a → NoticedStill m i a
+  pub cool-turned : (a : Point) (e : Notice) (b : Point) → StaleBase m a → NoticedStill m i a
       → a.pending ≡ [] → IsOver m e a.state.bus → IsCaused m e a.state.host
-      → b.state ≡ record a.state { host = (host_turn e a.state.host).host }
-      → b.asked ≡ a.asked → b.pending ≡ (host_turn e a.state.host).acts → IsCool i a → IsCool i b
+      → b.state ≡ record a.state { host = (turn_of e a.state.host).host }
+      → b.asked ≡ a.asked → b.pending ≡ (turn_of e a.state.host).acts → IsCool i a → IsCool i b
   cool-turned a e b f noticed none over cause state asked pending h = record {
     low = λ n s. ⊎_elim (λ o. subst (λ (t : State). level_of i t.ports ≤ 1) (sym state) (h.low n o))
         (λ gone. subst (λ (t : State). level_of i t.ports ≤ 1) (sym state)
-        (subst (λ k. k ≤ 1) (sym (still gone.0).0) (quiet.low.low (removed gone)))) (fate n s);
+        (subst (λ k. k ≤ 1) (sym (still gone).0) (quiet.low.low (removed gone)))) (fate n s);
     starts = λ n s one.
         let level = sym (ap (λ (t : State). level_of i t.ports) state) ∙ one in
         subst (λ (t : State). AreStarts (enums i t.bus)) (sym state)
-        (⊎_elim (λ o. h.starts n o level) (λ gone. (still gone.0).1 (same gone.0)
-        (quiet.low.starts (removed gone, sym (still gone.0).0 ∙ level))) (fate n s));
+        (⊎_elim (λ o. h.starts n o level) (λ gone. (still gone).1 (same gone)
+        (quiet.low.starts (removed gone, sym (still gone).0 ∙ level))) (fate n s));
     waits = λ x j at w g p n s.
         let k = subst (λ (t : State). IsIn x t.host.interfaces) state j in
         let was = turn-waits e a.state.host x k w g in
         ⊎_elim (λ o. h.waits was.was was.known (was.intf ∙ at) w (was.awaits ∙ g) p n o)
-        (λ gone. absurd (absent-then x at (subst (λ y. IsIn x (host_turn y
-        a.state.host).host.interfaces) gone.0 k))) (fate n s);
+        (λ gone. absurd (absent-then x at (subst (λ y. IsIn x (turn_of y
+        a.state.host).host.interfaces) gone k))) (fate n s);
     due = λ g q j at p. asks-calm i (HasNoStale i b) e a.state.host calm q
         (subst (AsksIn q) pending j) at p;
   }
@@ -68,9 +67,9 @@ module _ (m : Moment) (absent : InsertsAbsent m) (i : ℕ)
       links : Linked a.state.bus a.state.host []
       links = subst (Linked a.state.bus a.state.host) none f.links
 
-      -- the interface is known, and is removed
+      -- the interface is removed
       Goes : Type 0
-      Goes = (e ≡ host_event.Removed i) × IsPresent i a.state.host.interfaces
+      Goes = e ≡ at_removal i
 
       -- what is stale was, or the removal of its interface is handled
       fate : (n : ℕ) → StaleAt i n b → StaleAt i n a ⊎ Goes
@@ -85,7 +84,7 @@ module _ (m : Moment) (absent : InsertsAbsent m) (i : ℕ)
           made : request_of n a.state.bus ≡ Some s.request
           made = subst (λ (t : State). request_of n t.bus ≡ Some s.request) state s.made
 
-          unknown : (l : Link) → IsIn l (host_turn e a.state.host).host.links
+          unknown : (l : Link) → IsIn l (turn_of e a.state.host).host.links
               → l.connection ≡ s.connection → ⊥
           unknown = subst (λ (t : State). (l : Link) → IsIn l t.host.links
               → l.connection ≡ s.connection → ⊥) state s.unknown
@@ -95,10 +94,8 @@ module _ (m : Moment) (absent : InsertsAbsent m) (i : ℕ)
           why l live on (removed j x is known at number) =
               let one = one-link a.state.host.links x l links.host.links.rise known live number in
               let of = f.pairs.of n i l s.request live
-              (subst (λ k. IsIn (n, k) a.state.past.made_for) (sym on) pair) made s.speaks in (
-                is ∙ ap host_event.Removed (sym at ∙ ap (λ (y : Link). y.intf) one ∙ of),
-                subst (λ k. IsPresent k a.state.host.interfaces) of (links.host.present l live),
-              )
+              (subst (λ k. IsIn (n, k) a.state.past.made_for) (sym on) pair) made s.speaks in
+              is ∙ ap at_removal (sym at ∙ ap (λ (y : Link). y.intf) one ∙ of)
           why l live on (closed j result payload x is known waiting number) =
               let bound = f.pairs.bound x known (j, steps.DestroyConnection) waiting in
               let own = f.pairs.made j x.connection (bound.own refl) in
@@ -109,7 +106,7 @@ module _ (m : Moment) (absent : InsertsAbsent m) (i : ℕ)
               (sym (number ∙ on)) pair)) waits)
 
           followed : (l : Link) → IsIn l a.state.host.links → l.connection ≡ s.connection
-              → IsFollowed l (host_turn e a.state.host).host.links (host_turn e a.state.host).acts
+              → IsFollowed l (turn_of e a.state.host).host.links (turn_of e a.state.host).acts
               → Goes
           followed l live on (stays k j same) =
               absurd (unknown k j (same.connection ∙ on))
@@ -140,22 +137,22 @@ module _ (m : Moment) (absent : InsertsAbsent m) (i : ℕ)
               (subst (λ ls. IsIn l ls) (sym (same-links e a.state.host)) found.0)))
 
       -- where the removal is handled
-      told : e ≡ host_event.Removed i → IsNoticed m (host_event.Removed i)
-      told gone = (subst (λ y. IsCaused m y a.state.host) gone cause).1
+      departs : Goes → IsDeparting m i a.state.host
+      departs gone = subst (λ y. IsCaused m y a.state.host) gone cause
 
-      still : e ≡ host_event.Removed i → (level_of i a.state.ports ≡ level_of i m.before.ports)
+      still : Goes → (level_of i a.state.ports ≡ level_of i m.before.ports)
           × (a.state.bus.requests ≡ m.before.bus.requests → AreStarts (enums i m.before.bus)
           → AreStarts (enums i a.state.bus))
-      still gone = noticed (host_event.Removed i) (told gone)
+      still gone = let d = departs gone in noticed (host_event.Removed d.primary) d.noticed
 
-      same : e ≡ host_event.Removed i → a.state.bus.requests ≡ m.before.bus.requests
+      same : Goes → a.state.bus.requests ≡ m.before.bus.requests
       same gone = subst (λ y. IsOver m y a.state.bus) gone over
 
       removed : Goes → is_removed i m.before ≡ true
-      removed gone = waits-before i m (removal-handled i i m start.basis start.links marks
-          (subst (λ (h : Host). known_at i h ≡ Some i)
-          (subst (λ y. IsCaused m y a.state.host) gone.0 cause).0
-          (present-known a.state.host gone.1)) (told gone.0))
+      removed gone =
+          let d = departs gone in
+          waits-before i m
+          (departing-handled i d.primary m start.basis start.links marks d.noticed d.known)
 
       absent-then : (x : Interface) → x.intf ≡ i
           → IsIn x (without_interface i a.state.host).interfaces → ⊥
@@ -175,7 +172,7 @@ module _ (m : Moment) (absent : InsertsAbsent m) (i : ℕ)
           h.waits x.interface x.known (x.intf ∙ at) (r.number, p.step) x.awaits power j o in
           none-earlier a f.basis f.links f.there f.order r.number j own.request own.made
           svc.connection svc.side own.twoway ended.0 (omega (arith, less)) o.waits)
-          (λ gone. absurd (answered-stays r gone.0)) (fate j s)
+          (λ gone. absurd (answered-stays r gone)) (fate j s)
         where
           unmarked : (t : Bool) → not t ≡ true → t ≡ false
           unmarked true g = absurd cc

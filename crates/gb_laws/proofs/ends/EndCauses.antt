@@ -19,8 +19,7 @@ use Rattle.gb_laws.proofs.points.PointParts.{AreQuiet, IsGivenUpFor, IsShutFor, 
 use Rattle.gb_laws.proofs.points.PointParts.{asked_told}
 use Rattle.gb_laws.proofs.points.PointParts.{disconnected, idle, is_quiet, removed, sent_told}
 use Rattle.gb_laws.proofs.{links.LinkLists.found-link, links.LinkRuns.LinkedTo}
-use Rattle.gb_laws.proofs.{marks.MarkMoments.link-known}
-use Rattle.gb_laws.proofs.{marks.MarkNotices.removal-handled}
+use Rattle.gb_laws.proofs.{links.Departing.departing-handled}
 use Rattle.gb_laws.proofs.{points.Onward.IsOnward}
 
 -- ---- what causes an end
@@ -149,7 +148,7 @@ shut-cause m k b start (disconnected i c l is at own) = inl (
       absurd (omega (arith, two, own, e)),
   inl (i, c, l, is, at, own),
 )
-shut-cause m k b start (removed i l noticed live own) =
+shut-cause m k b start (removed p i l noticed known live own) =
     let f = in-filter (λ (x : Link). x.intf == i) m.before.host.links l live in inl (
       λ e. let two = (start.1.host.links.numbered l f.0).from_two in absurd
           (omega (arith, two, own, e)),
@@ -158,7 +157,6 @@ shut-cause m k b start (removed i l noticed live own) =
         subst (λ n. link_of n m.before.host ≡ Some l) own
             (found-link m.before.host.links l start.1.host.links.rise f.0),
         subst (λ j. HandlesRemoval j m) (sym (same-number l.intf i f.1))
-            (removal-handled i i m start.0 start.1 start.2 (link-known i m.before l start.1
-            f.0 (same-number l.intf i f.1)) noticed),
+            (departing-handled i p m start.0 start.1 start.2 noticed known),
       ),
     )

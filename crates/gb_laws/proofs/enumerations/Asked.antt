@@ -2,21 +2,21 @@
 use Rattle.std.proofs.Common.{Some, ap, false, inl, inr, refl, subst, sym, true, ℕ, ⊎_elim, []}
 use Rattle.std.proofs.Common.{◌++◌, ◌∙◌, ◌∷◌, ◌≡◌, ◌⊎◌}
 use Rattle.std.specs.Prelude.{IfSome}
-use Rattle.gb_base.specs.declared.host_event.HostEvent.{HostEvent}
 use Rattle.gb_base.specs.declared.peers.Interface.{Interface}
 use Rattle.gb_base.specs.declared.steps.{Purpose.Purpose, SequenceStep.SequenceStep}
 use Rattle.gb_base.specs.declared.entry.IntfStage.TheVariants as stage
 use Rattle.gb_base.specs.declared.steps.SequenceStep.TheVariants as steps
 use Rattle.gb_machine.specs.Host.{Host, intf_before, is_intf, new_interface, staged}
-use Rattle.gb_machine.specs.{Failures.unsent, HostTurns.host_turn, Lists.holds_of}
+use Rattle.gb_machine.specs.{Failures.unsent, Lists.holds_of}
 use Rattle.gb_machine.specs.{SequenceSteps.is_enumeration, Sequences.enumerated, Turns.Asking}
 use Rattle.gb_invariants.proofs.HostChanges.{Finds, HostChange, HostEnd, IsAnswered, IsAskedAt}
-use Rattle.gb_invariants.proofs.HostChanges.{IsLast, Occasion, TurnLaw, acts_by, at_event}
+use Rattle.gb_invariants.proofs.HostChanges.{IsLast, Occasion, TurnLaw, acts_by, at_notice}
 use Rattle.gb_invariants.proofs.HostChanges.{at_unsent, changes-ask, end_of, host_after}
 use Rattle.gb_invariants.proofs.HostChanges.{step_behind, to_close, to_connect, to_disconnect}
 use Rattle.gb_invariants.proofs.HostChanges.{to_enumerate, to_go_on}
 use Rattle.gb_invariants.proofs.{Awaiting.none-some, Awaiting.not-both, Found.in-ordered}
 use Rattle.gb_invariants.proofs.{Lists.in-without, OverTurns.over-turn, OverTurns.over-unsent}
+use Rattle.gb_invariants.proofs.HostChanges.{Notice, turn_of}
 use Rattle.gb_laws.proofs.enumerations.AskedWaits.{AsksIn, WaitsFewer, asked-alone, asks-behind}
 use Rattle.gb_laws.proofs.enumerations.AskedWaits.{is_power_step}
 use Rattle.gb_laws.proofs.enumerations.AskedWaits.{no-asks, opened-alone, same-waits, then-waits}
@@ -25,10 +25,10 @@ use Rattle.gb_laws.proofs.enumerations.AskedWaits.{waits-interface, waits-purpos
 -- ---- what is waited for
 
 change-waits : (x : HostChange) (h : Host) → Finds h x → WaitsFewer h (host_after x h)
-change-waits (HostChange.arrives i) h finds = λ x k w e.
+change-waits (HostChange.arrives p i) h finds = λ x k w e.
     ⊎_elim (λ new. absurd (none-some (sym (ap (λ (y : Interface). y.awaits) new) ∙ e)))
     (λ o. record { was = x; known = o; intf = refl; awaits = refl })
-    (in-ordered intf_before x (new_interface i) h.interfaces k)
+    (in-ordered intf_before x (new_interface p i) h.interfaces k)
 change-waits (HostChange.departs i) h finds = λ x k w e. record {
   was = x;
   known = (in-without (is_intf i) h.interfaces x k).0;
@@ -55,8 +55,8 @@ waits_law o = record {
 }
 
 -- no turn lets an interface wait for more
-pub turn-waits : (e : HostEvent) (h : Host) → WaitsFewer h (host_turn e h).host
-turn-waits e h = over-turn e h (waits_law (at_event e h))
+pub turn-waits : (e : Notice) (h : Host) → WaitsFewer h (turn_of e h).host
+turn-waits e h = over-turn e h (waits_law (at_notice e h))
 
 -- nor does what fails where no identifier is left
 pub waits-unsent : (p : Purpose) (h : Host) → WaitsFewer h (unsent p h).host
@@ -69,8 +69,8 @@ pub change-asks : {q : Asking} (x : HostChange) (h : Host) {t : _}
     → AsksIn q (acts_by x h ++ t) → AsksIn q t
 change-asks x h j = asks-behind (acts_by x h) (changes-ask x h) j
 
-end-asks : (e : HostEvent) (before : Host) (x : HostEnd) (h : Host)
-    → IsLast (at_event e before) h x → (q : Asking) → AsksIn q (end_of x h).acts
+end-asks : (e : Notice) (before : Host) (x : HostEnd) (h : Host)
+    → IsLast (at_notice e before) h x → (q : Asking) → AsksIn q (end_of x h).acts
     → IsAskedAt e before q.purpose
 end-asks e before HostEnd.rests h last q j = absurd (no-asks j)
 end-asks e before (HostEnd.asks k p) h last q j =
@@ -81,7 +81,7 @@ end-asks e before (HostEnd.enumerates p bytes) h last q j =
     absurd (no-asks (asks-behind (_ ∷ []) (tt, tt) j))
 
 -- Why a request of a turn is made.
-pub asked-why : (e : HostEvent) (h : Host) (q : Asking) → AsksIn q (host_turn e h).acts
+pub asked-why : (e : Notice) (h : Host) (q : Asking) → AsksIn q (turn_of e h).acts
     → IsAskedAt e h q.purpose
 asked-why e h = over-turn e h (record {
   says = λ g t. (q : Asking) → AsksIn q t.acts → IsAskedAt e h q.purpose;
@@ -110,9 +110,9 @@ same-kind s e = subst (λ o. IfSome o (λ t. is_enumeration s ≡ is_enumeration
 
 -- Of interface i a turn asks the supervisory controller for the start of an enumeration alone,
 -- unless such a step was answered.
-pub asks-calm : (i : ℕ) (Calm : Type 0) (e : HostEvent) (h : Host)
+pub asks-calm : (i : ℕ) (Calm : Type 0) (e : Notice) (h : Host)
     → ((p : Purpose) → IsAnswered e h p → p.intf ≡ i → is_power_step p.step ≡ true → Calm)
-    → (q : Asking) → AsksIn q (host_turn e h).acts → q.purpose.intf ≡ i
+    → (q : Asking) → AsksIn q (turn_of e h).acts → q.purpose.intf ≡ i
     → is_power_step q.purpose.step ≡ true → (q.purpose.step ≡ steps.EnableVsys) ⊎ Calm
 asks-calm i Calm e h calm q j at power = by (asked-why e h q j)
   where
@@ -121,7 +121,7 @@ asks-calm i Calm e h calm q j at power = by (asked-why e h q j)
         (ap (λ (x : Purpose). is_power_step x.step) is ∙ other))
 
     by : IsAskedAt e h q.purpose → (q.purpose.step ≡ steps.EnableVsys) ⊎ Calm
-    by (to_enumerate k f is) = inl (ap (λ (x : Purpose). x.step) is)
+    by (to_enumerate p k f is) = inl (ap (λ (x : Purpose). x.step) is)
     by (to_connect k c f is) = none _ is refl
     by (to_disconnect k c l f found is) = none _ is refl
     by (to_close d l why found is) = none _ is refl

@@ -45,16 +45,16 @@ module _ (i : ℕ) where
       (other : (j : ℕ) (h : Host) → IsFor o h (HostChange.departs j) → (j == i) ≡ false) where
     pub change-keeps : (x : HostChange) (h : Host) → Finds h x → IsFor o h x
         → (IsDone i h.interfaces → IsDone i before.interfaces) → KeepsDone i h (host_after x h)
-    change-keeps (HostChange.arrives j) h finds why back = record {
+    change-keeps (HostChange.arrives p j) h finds why back = record {
       done = λ d. record {
         interface = d.interface;
-        known = ordered-stays intf_before d.interface (new_interface j) h.interfaces d.known;
+        known = ordered-stays intf_before d.interface (new_interface p j) h.interfaces d.known;
         intf = d.intf;
         done = d.done;
       };
       stages = λ none x k e. ⊎_elim
           (λ f. apart (sym (ap (λ (y : Interface). y.stage) f) ∙ e)) (λ o. none x o e)
-          (in-ordered intf_before x (new_interface j) h.interfaces k);
+          (in-ordered intf_before x (new_interface p j) h.interfaces k);
     }
       where
         apart : stage.Enumerating ≡ stage.Removed → ⊥

@@ -52,10 +52,10 @@ module _ (i : ℕ) where
 
   -- no change enumerates an interface
   pub change-done : (x : HostChange) (h : Host) → Finds h x → FewerDone h (host_after x h)
-  change-done (HostChange.arrives j) h finds d =
+  change-done (HostChange.arrives p j) h finds d =
       ⊎_elim (λ e. absurd (other (sym (ap (λ (x : Interface). x.stage) e) ∙ d.done)))
       (λ o. record { interface = d.interface; known = o; intf = d.intf; done = d.done })
-      (in-ordered intf_before d.interface (new_interface j) h.interfaces d.known)
+      (in-ordered intf_before d.interface (new_interface p j) h.interfaces d.known)
     where
       other : stage.Enumerating ≡ stage.Enumerated → ⊥
       other e = absurd cc

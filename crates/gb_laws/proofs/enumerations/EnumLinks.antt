@@ -4,8 +4,6 @@ use Rattle.std.proofs.Common.{Bool, List, None, Option, Some, ap, false, inl, re
 use Rattle.std.proofs.Common.{true, ℕ, ⊎_elim, [], ◌∙◌, ◌∷◌, ◌≡◌, ◌≢◌}
 use Rattle.std.specs.Prelude.{is_none, ◌==◌}
 use Rattle.gb_base.specs.declared.entry.IntfStage.{IntfStage}
-use Rattle.gb_base.specs.declared.host_event.HostEvent.TheVariants as host_event
-use Rattle.gb_base.specs.declared.host_event.HostEvent.{HostEvent}
 use Rattle.gb_base.specs.declared.peers.{Interface.Interface, Link.Link}
 use Rattle.gb_base.specs.declared.steps.Purpose.{Purpose}
 use Rattle.gb_base.specs.declared.end.Side.TheVariants as side
@@ -18,14 +16,15 @@ use Rattle.gb_machine.specs.HostRefusals.{connect_conditions, disconnect_conditi
 use Rattle.gb_machine.specs.HostRefusals.{is_failed_stage}
 use Rattle.gb_machine.specs.Turns.{Act, Asking}
 use Rattle.gb_machine.specs.{Failures.unsent, HostServing.host_serves, HostServing.with_credits}
-use Rattle.gb_machine.specs.{HostTurns.host_turn, LineActions.spent, Lists.holds_of, Members.IsIn}
+use Rattle.gb_machine.specs.{LineActions.spent, Lists.holds_of, Members.IsIn}
 use Rattle.gb_machine.specs.{Refusals.has_no_label, Runs.Moment, SequenceSteps.is_enumeration}
 use Rattle.gb_machine.specs.{State.State, Waits.awaited, Waits.awaits, Wiring.next_connection}
-use Rattle.gb_invariants.proofs.HostChanges.{HostChange, IsAskedAt, at_event, to_close, to_connect}
+use Rattle.gb_invariants.proofs.HostChanges.{HostChange, IsAskedAt, at_notice, to_close, to_connect}
 use Rattle.gb_invariants.proofs.HostChanges.{to_disconnect, to_enumerate, to_go_on}
 use Rattle.gb_invariants.proofs.Lists.{found-in, in-pushed, in-without}
 use Rattle.gb_invariants.proofs.{Awaiting.not-both, Outcomes.is-same, Outcomes.same-number}
 use Rattle.gb_invariants.proofs.{OverTurns.over-turn}
+use Rattle.gb_invariants.proofs.HostChanges.{Notice, at_removal, turn_of}
 use Rattle.gb_laws.proofs.enumerations.Asked.{asked-why, change-asks, same-kind}
 use Rattle.gb_laws.proofs.enumerations.AskedWaits.{AsksIn, asks-behind, asks_in, no-asks, opens_in}
 use Rattle.gb_laws.proofs.enumerations.DoneStays.{KeepsDone, NoneRemoved, keeps-same, keeps-waiting}
@@ -117,14 +116,14 @@ module _ (m : Moment) (absent : InsertsAbsent m) (i : ℕ) (a : Point) (links : 
       by (connecting l j intf cport w waits step) =
           h.links l j (sym intf ∙ at) (links.host.links.waiting l j w waits).0
 
-  turn-keeps : (e : HostEvent) → ((j : ℕ) → e ≡ host_event.Removed j → (j == i) ≡ false)
-      → KeepsDone i a.state.host (host_turn e a.state.host).host
-  turn-keeps e other = over-turn e a.state.host (keeps_law i (at_event e a.state.host) a.state.host
+  turn-keeps : (e : Notice) → ((j : ℕ) → e ≡ at_removal j → (j == i) ≡ false)
+      → KeepsDone i a.state.host (turn_of e a.state.host).host
+  turn-keeps e other = over-turn e a.state.host (keeps_law i (at_notice e a.state.host) a.state.host
       (λ j f at. undone f.1.number f.0 f.1.awaited f.2 (f.3 ∙ at)) (λ j g f. other j f.0)) (λ d. d)
 
   -- a turn asks for connections of interfaces that are enumerated alone
-  asks-done : (e : HostEvent) → IsCaused m e a.state.host → (q : Asking)
-      → AsksIn q (host_turn e a.state.host).acts → q.purpose.intf ≡ i
+  asks-done : (e : Notice) → IsCaused m e a.state.host → (q : Asking)
+      → AsksIn q (turn_of e a.state.host).acts → q.purpose.intf ≡ i
       → is_enumeration q.purpose.step ≡ false → IsDone i a.state.host.interfaces
   asks-done e cause q k at s = by (asked-why e a.state.host q k)
     where
@@ -132,7 +131,7 @@ module _ (m : Moment) (absent : InsertsAbsent m) (i : ℕ) (a : Point) (links : 
       where-asked is = ap (λ (x : Purpose). x.intf) (sym is) ∙ at
 
       by : IsAskedAt e a.state.host q.purpose → IsDone i a.state.host.interfaces
-      by (to_enumerate j f is) = absurd (not-both (is_enumeration q.purpose.step)
+      by (to_enumerate p j f is) = absurd (not-both (is_enumeration q.purpose.step)
           (ap (λ (x : Purpose). is_enumeration x.step) is) s)
       by (to_connect j c f is) =
           let cause' = subst (λ y. IsCaused m y a.state.host) f cause in
@@ -166,29 +165,29 @@ module _ (m : Moment) (absent : InsertsAbsent m) (i : ℕ) (a : Point) (links : 
           (same-kind last.step next ∙ ap (λ (x : Purpose). is_enumeration x.step) (sym is) ∙ s)
           (where-asked is)
 
-  links-turned : (e : HostEvent) {b : Point} → IsCaused m e a.state.host
-      → b.state ≡ record a.state { host = (host_turn e a.state.host).host }
-      → b.pending ≡ (host_turn e a.state.host).acts
-      → ((j : ℕ) → e ≡ host_event.Removed j → (j == i) ≡ false) → LinksDone i b
+  links-turned : (e : Notice) {b : Point} → IsCaused m e a.state.host
+      → b.state ≡ record a.state { host = (turn_of e a.state.host).host }
+      → b.pending ≡ (turn_of e a.state.host).acts
+      → ((j : ℕ) → e ≡ at_removal j → (j == i) ≡ false) → LinksDone i b
   links-turned e {b} cause state pending other =
       let keeps = turn-keeps e other in record {
         stages = subst (λ (s : State). NoneRemoved s.host.interfaces) (sym state)
             (keeps.stages h.stages);
         links = λ l j at other.
-            let x = came-from a.state.host (host_turn e a.state.host).host
+            let x = came-from a.state.host (turn_of e a.state.host).host
             (from-turn e a.state.host) l (subst (λ (s : State). IsIn l s.host.links) state j) in
             onto (keeps.done (h.links x.0 x.1 (sym x.2.intf ∙ at)
             (λ zero. other (x.2.cport ∙ zero))));
         due = λ q j at s. onto (keeps.done (asks-done e cause q (subst (AsksIn q) pending j) at s));
       }
     where
-      onto : IsDone i (host_turn e a.state.host).host.interfaces → IsDone i b.state.host.interfaces
+      onto : IsDone i (turn_of e a.state.host).host.interfaces → IsDone i b.state.host.interfaces
       onto d = subst (λ (s : State). IsDone i s.host.interfaces) (sym state) d
 
   -- its removal is handled
   links-removed : (j : ℕ) (b : Point) → j ≡ i
-      → b.state ≡ record a.state { host = (host_turn (host_event.Removed j) a.state.host).host }
-      → b.pending ≡ (host_turn (host_event.Removed j) a.state.host).acts → LinksDone i b
+      → b.state ≡ record a.state { host = (turn_of (at_removal j) a.state.host).host }
+      → b.pending ≡ (turn_of (at_removal j) a.state.host).acts → LinksDone i b
   links-removed j b same state pending = record {
     stages = subst (λ (s : State). NoneRemoved s.host.interfaces) (sym state)
         (λ x k. h.stages x (in-without (is_intf j) a.state.host.interfaces x k).0);
@@ -201,13 +200,13 @@ module _ (m : Moment) (absent : InsertsAbsent m) (i : ℕ) (a : Point) (links : 
   }
 
 -- the removal of an interface is handled
-abbrev is_removal_of : ℕ → HostEvent → Bool
-is_removal_of i (host_event.Removed j) = j == i
+abbrev is_removal_of : ℕ → Notice → Bool
+is_removal_of i (at_removal j) = j == i
 is_removal_of i _ = false
 
-removal-is : (i : ℕ) (e : HostEvent) → is_removal_of i e ≡ true
-    → (j : ℕ) × (e ≡ host_event.Removed j) × (j ≡ i)
-removal-is i (host_event.Removed j) f = (j, refl, same-number j i f)
+removal-is : (i : ℕ) (e : Notice) → is_removal_of i e ≡ true
+    → (j : ℕ) × (e ≡ at_removal j) × (j ≡ i)
+removal-is i (at_removal j) f = (j, refl, same-number j i f)
 removal-is i _ f = absurd cc
 
 -- ---- each single change
@@ -223,8 +222,8 @@ links-kept m absent i a (turns e free untouched none cause) links settled h =
     by : (t : Bool) → is_removal_of i e ≡ t → LinksDone i at
     by true f = let r = removal-is i e f in
         links-removed m absent i a links settled h r.0 at r.2
-        (ap (λ g. record a.state { host = (host_turn g a.state.host).host }) r.1)
-        (ap (λ g. (host_turn g a.state.host).acts) r.1)
+        (ap (λ g. record a.state { host = (turn_of g a.state.host).host }) r.1)
+        (ap (λ g. (turn_of g a.state.host).acts) r.1)
     by false f = links-turned m absent i a links settled h e cause refl refl
         (λ j is. ap (is_removal_of i) (sym is) ∙ f)
 links-kept m absent i a (acts_opened w q rest free is) links settled h = record {

@@ -3,18 +3,18 @@
 use Rattle.std.proofs.Common.{Bool, List, None, Option, Some, ap, arith, false, inl, inr, refl}
 use Rattle.std.proofs.Common.{subst, sym, true, ℕ, ⊎_elim, [], ◌∙◌, ◌∷◌, ◌≡◌}
 use Rattle.std.specs.Prelude.{is_some, not, ◌&&◌}
-use Rattle.gb_base.specs.declared.host_event.HostEvent.TheVariants as host_event
-use Rattle.gb_base.specs.declared.host_event.HostEvent.{HostEvent}
 use Rattle.gb_base.specs.declared.peers.Interface.{Interface}
 use Rattle.gb_base.specs.declared.steps.{Purpose.Purpose, SequenceStep.SequenceStep}
 use Rattle.gb_machine.specs.Turns.{Act, Asking}
 use Rattle.gb_machine.specs.Waits.{awaited, awaits_nothing, interface_waits, link_waits}
 use Rattle.gb_machine.specs.{Bus.Bus, Bus.or_else, Host.Host, Host.interface_of}
-use Rattle.gb_machine.specs.{HostActs.host_draft, HostTurns.host_turn, LawsBus.is_awaited}
+use Rattle.gb_machine.specs.{HostActs.host_draft, LawsBus.is_awaited}
 use Rattle.gb_machine.specs.{Members.IsIn, Runs.Moment, Sending.requested, Sending.sent}
 use Rattle.gb_machine.specs.{SequenceSteps.asks_control, SequenceSteps.is_enumeration, State.State}
 use Rattle.gb_machine.specs.{SvcQueues.is_enumeration_request}
 use Rattle.gb_invariants.proofs.Awaiting.{none-some, not-both}
+use Rattle.gb_invariants.proofs.HostChanges.{Notice, turn_of}
+use Rattle.gb_invariants.proofs.HostChanges.{at_insertion}
 use Rattle.gb_laws.proofs.enumerations.AskedWaits.{AsksIn, WaitsFewer, asks_in, opens_in}
 use Rattle.gb_laws.proofs.enumerations.EnumNone.{IsNone, none-enums, none-sent}
 use Rattle.gb_laws.proofs.links.LinkEnds.{resumed, step-connects, waits-for, waits-link}
@@ -178,10 +178,10 @@ waits-none {b} n {h} p fits e s =
     by true f d = d.idle
     by false f d = absurd cc
 
-enums-turned : (m : Moment) → InsertsAbsent m → (i : ℕ) (e : HostEvent) (a : Point) → Basis a
+enums-turned : (m : Moment) → InsertsAbsent m → (i : ℕ) (e : Notice) (a : Point) → Basis a
     → LinkedAt a → There a.state.bus → IsOver m e a.state.bus → IsCaused m e a.state.host
     → IsQuiet i a → IsSettled i a
-    → TurnEnums i (MayAt i a) (IsNone i a.state.bus) a.state.host (host_turn e a.state.host)
+    → TurnEnums i (MayAt i a) (IsNone i a.state.bus) a.state.host (turn_of e a.state.host)
 enums-turned m absent i e a basis links there over cause quiet h =
     turn-enums i (MayAt i a) (IsNone i a.state.bus) e a.state.host (λ p r at s.
     let w = waited-enum r.number p links.host r.awaited s in
@@ -192,15 +192,15 @@ enums-turned m absent i e a basis links there over cause quiet h =
       λ step. (may.0, λ c. none),
       subst (λ k. IsResting k (awaits_nothing p a.state.host).interfaces) at
           (waits-none r.number p links.host r.awaited s),
-    )) (λ j is at. (λ d. fresh j is at d, λ c. absurd cc))
+    )) (λ p j is at. (λ d. fresh p j is at d, λ c. absurd cc))
   where
-    fresh : (j : ℕ) → e ≡ host_event.Inserted j → j ≡ i → IsDone i a.state.host.interfaces → ⊥
-    fresh j is at d =
+    fresh : (p j : ℕ) → e ≡ at_insertion p j → j ≡ i → IsDone i a.state.host.interfaces → ⊥
+    fresh p j is at d =
         let c = subst (λ f. IsCaused m f a.state.host) is cause in
         not-both (is_some (interface_of i a.state.host)) (present-some a.state.host
         (record { interface = d.interface; known = d.known; is = d.intf }))
-        (ap (λ g. is_some (interface_of i g)) c.0
-        ∙ ap is_some (subst (λ k. interface_of k m.before.host ≡ None) at (absent j c.1)))
+        (ap is_some (subst (λ k. interface_of k a.state.host ≡ None) at
+        (c.absent (absent p c.count j c.noticed c.within))))
 
     by : (n : ℕ) (p : Purpose) (w : IsWaitedBy a.state.host n p) → is_awaited n a.state.bus ≡ false
         → p.intf ≡ i → is_enumeration p.step ≡ true → MayAt i a p.step → (t : Bool)
@@ -211,11 +211,11 @@ enums-turned m absent i e a basis links there over cause quiet h =
         (quiet.waits w.interface w.known (w.intf ∙ at) (n, p.step) w.awaits
         (ap (λ t. t && not (asks_control p.step)) s ∙ ap not e)).last)
 
-pub settled-turned : (m : Moment) → InsertsAbsent m → (i : ℕ) (e : HostEvent) (a b : Point)
+pub settled-turned : (m : Moment) → InsertsAbsent m → (i : ℕ) (e : Notice) (a b : Point)
     → Basis a → LinkedAt a → There a.state.bus → IsOver m e a.state.bus
     → IsCaused m e a.state.host → IsQuiet i a
-    → b.state ≡ record a.state { host = (host_turn e a.state.host).host }
-    → b.pending ≡ (host_turn e a.state.host).acts → IsSettled i a → IsSettled i b
+    → b.state ≡ record a.state { host = (turn_of e a.state.host).host }
+    → b.pending ≡ (turn_of e a.state.host).acts → IsSettled i a → IsSettled i b
 settled-turned m absent i e a b basis links there over cause quiet state pending h = record {
   done = λ d. onto (⊎_elim (λ o. h.done o) (λ c. c.0) (t.done (back d)));
   waits = λ x j at w f.
@@ -231,11 +231,11 @@ settled-turned m absent i e a b basis links there over cause quiet state pending
       (λ d. ⊎_elim may.0 (λ c. c.1 q k) (t.done (back d)), λ c. onto (may.1 c));
 }
   where
-    t : TurnEnums i (MayAt i a) (IsNone i a.state.bus) a.state.host (host_turn e a.state.host)
+    t : TurnEnums i (MayAt i a) (IsNone i a.state.bus) a.state.host (turn_of e a.state.host)
     t = enums-turned m absent i e a basis links there over cause quiet h
 
     onto : IsNone i a.state.bus → IsNone i b.state.bus
     onto k = subst (λ (s : State). IsNone i s.bus) (sym state) k
 
-    back : IsDone i b.state.host.interfaces → IsDone i (host_turn e a.state.host).host.interfaces
+    back : IsDone i b.state.host.interfaces → IsDone i (turn_of e a.state.host).host.interfaces
     back d = subst (λ (s : State). IsDone i s.host.interfaces) state d

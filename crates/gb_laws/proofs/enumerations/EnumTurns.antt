@@ -2,20 +2,20 @@
 -- that is enumerated then.
 use Rattle.std.proofs.Common.{ap, inl, inr, refl, subst, sym, true, ℕ, ⊎_elim, [], ◌∙◌, ◌∷◌, ◌≡◌}
 use Rattle.std.proofs.Common.{◌⊎◌}
-use Rattle.gb_base.specs.declared.host_event.HostEvent.TheVariants as host_event
-use Rattle.gb_base.specs.declared.host_event.HostEvent.{HostEvent}
 use Rattle.gb_base.specs.declared.peers.Interface.{Interface}
 use Rattle.gb_base.specs.declared.steps.{Purpose.Purpose, SequenceStep.SequenceStep}
 use Rattle.gb_base.specs.declared.steps.SequenceStep.TheVariants as steps
 use Rattle.gb_machine.specs.Turns.{Asking, Turn}
-use Rattle.gb_machine.specs.{Host.Host, Host.is_intf, HostTurns.host_turn}
+use Rattle.gb_machine.specs.{Host.Host, Host.is_intf}
 use Rattle.gb_machine.specs.{SequenceSteps.is_enumeration, Sequences.enumerated}
 use Rattle.gb_machine.specs.{Waits.awaits_nothing}
-use Rattle.gb_invariants.proofs.HostChanges.{HostEnd, IsAnswered, IsAskedAt, IsLast, at_event}
+use Rattle.gb_invariants.proofs.HostChanges.{HostEnd, IsAnswered, IsAskedAt, IsLast, at_notice}
 use Rattle.gb_invariants.proofs.HostChanges.{end_of, to_close, to_connect, to_disconnect}
 use Rattle.gb_invariants.proofs.HostChanges.{to_enumerate, to_go_on}
 use Rattle.gb_invariants.proofs.{Awaiting.not-both, Lists.in-at_first, Outcomes.same-number}
 use Rattle.gb_invariants.proofs.{OverTurns.over-turn}
+use Rattle.gb_invariants.proofs.HostChanges.{Notice, turn_of}
+use Rattle.gb_invariants.proofs.HostChanges.{at_insertion}
 use Rattle.gb_laws.proofs.enumerations.Asked.{asked-why, change-asks, same-kind}
 use Rattle.gb_laws.proofs.enumerations.AskedWaits.{AsksIn, asks-behind, no-asks}
 use Rattle.gb_laws.proofs.{enumerations.EnumDone.IsDone, enumerations.EnumDone.change-done}
@@ -36,14 +36,14 @@ pub record TurnEnums (i : ℕ) (May : SequenceStep → Type 0) (Calm : Type 0) (
   pub done : IsDoneFrom i Calm h t
 
 -- what holds where a step of the enumeration was answered
-abbrev pub IsCalmBehind : ℕ → (SequenceStep → Type 0) → Type 0 → HostEvent → Host → Type 0
+abbrev pub IsCalmBehind : ℕ → (SequenceStep → Type 0) → Type 0 → Notice → Host → Type 0
 IsCalmBehind i May Calm e h = (p : Purpose) → IsAnswered e h p → p.intf ≡ i
     → is_enumeration p.step ≡ true
     → Calm × ((s : SequenceStep) → May s) × IsResting i (awaits_nothing p h).interfaces
 
-module _ (i : ℕ) (May : SequenceStep → Type 0) (Calm : Type 0) (e : HostEvent) (h : Host)
+module _ (i : ℕ) (May : SequenceStep → Type 0) (Calm : Type 0) (e : Notice) (h : Host)
     (calm : IsCalmBehind i May Calm e h) where
-  end-enums : (x : HostEnd) (g : Host) → IsLast (at_event e h) g x
+  end-enums : (x : HostEnd) (g : Host) → IsLast (at_notice e h) g x
       → IsDoneFrom i Calm g (end_of x g)
   end-enums (HostEnd.enumerates p bytes) g last d = ⊎_elim (λ o. inl (record {
     interface = d.interface;
@@ -63,8 +63,8 @@ module _ (i : ℕ) (May : SequenceStep → Type 0) (Calm : Type 0) (e : HostEven
   end-enums _ g last d = inl d
 
   -- An enumeration begins where its interface is inserted, and goes on where a step was answered.
-  pub turn-enums : ((j : ℕ) → e ≡ host_event.Inserted j → j ≡ i → May steps.EnableVsys)
-      → TurnEnums i May Calm h (host_turn e h)
+  pub turn-enums : ((p j : ℕ) → e ≡ at_insertion p j → j ≡ i → May steps.EnableVsys)
+      → TurnEnums i May Calm h (turn_of e h)
   turn-enums may = record {
     asks = λ q j at s. by q at s (asked-why e h q j);
     done = over-turn e h (record {
@@ -77,8 +77,8 @@ module _ (i : ℕ) (May : SequenceStep → Type 0) (Calm : Type 0) (e : HostEven
     where
       by : (q : Asking) → q.purpose.intf ≡ i → is_enumeration q.purpose.step ≡ true
           → IsAskedAt e h q.purpose → May q.purpose.step
-      by q at s (to_enumerate j f is) = subst May (ap (λ (x : Purpose). x.step) (sym is))
-          (may j f (ap (λ (x : Purpose). x.intf) (sym is) ∙ at))
+      by q at s (to_enumerate p j f is) = subst May (ap (λ (x : Purpose). x.step) (sym is))
+          (may p j f (ap (λ (x : Purpose). x.intf) (sym is) ∙ at))
       by q at s (to_connect j c f is) = absurd (not-both (is_enumeration q.purpose.step) s
           (ap (λ (x : Purpose). is_enumeration x.step) is))
       by q at s (to_disconnect j c l f found is) =

@@ -1,16 +1,16 @@
 -- What a turn of the application processor tells and closes, at each event that it takes notice of.
 use Rattle.std.proofs.Common.{Bool, List, None, Option, Some, ap, cond, false, inl, inr, map, refl}
 use Rattle.std.proofs.Common.{subst, sym, true, ℕ, [], ◌∙◌, ◌∷◌, ◌≡◌}
+use Rattle.std.specs.Prelude.{◌==◌}
 use Rattle.gb_base.specs.declared.entry.{ConnState.ConnState, Entry.Entry}
 use Rattle.gb_base.specs.declared.host_event.HostEvent.TheVariants as host_event
-use Rattle.gb_base.specs.declared.host_event.HostEvent.{HostEvent}
 use Rattle.gb_base.specs.declared.peers.Link.{Link}
 use Rattle.gb_base.specs.declared.steps.Purpose.{Purpose}
 use Rattle.gb_base.specs.declared.entry.ConnState.TheVariants as state
 use Rattle.gb_base.specs.declared.end.Side.TheVariants as side
 use Rattle.gb_base.specs.declared.entry.Entry.TheVariants as entry
 use Rattle.gb_base.specs.declared.steps.SequenceStep.TheVariants as steps
-use Rattle.gb_machine.specs.HostTurns.{disconnects, drained, host_disconnects, host_idle, host_turn}
+use Rattle.gb_machine.specs.HostTurns.{disconnects, drained, host_disconnects, host_idle}
 use Rattle.gb_machine.specs.HostTurns.{links_left, links_of}
 use Rattle.gb_machine.specs.Turns.{Act, failed_turn, turn}
 use Rattle.gb_machine.specs.{Failures.link_told, Failures.unsent, Host.Host, Host.link_at}
@@ -23,10 +23,12 @@ use Rattle.gb_machine.specs.Host.{in_state, is_draining, link_of, with_link}
 use Rattle.gb_machine.specs.SequenceSteps.{purpose}
 use Rattle.gb_invariants.proofs.HostChanges.{Finds, HostChange, HostEnd, IsClosingFor, IsFor}
 use Rattle.gb_invariants.proofs.HostChanges.{IsOfNone, MayTurnTo, Occasion, TurnLaw, acts_by}
-use Rattle.gb_invariants.proofs.HostChanges.{at_event, at_unsent, by_disconnect, by_idle, end_of}
+use Rattle.gb_invariants.proofs.HostChanges.{at_notice, at_unsent, by_disconnect, by_idle, end_of}
 use Rattle.gb_invariants.proofs.{Lists.each-append, OverTurns.over-turn, OverTurns.over-unsent}
 use Rattle.gb_invariants.proofs.Outcomes.{same-number}
-use Rattle.gb_invariants.proofs.Lists.{found-in}
+use Rattle.gb_invariants.proofs.Lists.{filter-in, found-in, in-filter}
+use Rattle.gb_invariants.proofs.HostChanges.{Notice, turn_of}
+use Rattle.gb_invariants.proofs.HostChanges.{at_event}
 use Rattle.gb_laws.proofs.points.PointParts.{AreQuiet, IsCaused, IsShutFor, disconnected, idle}
 use Rattle.gb_laws.proofs.points.PointParts.{is_quiet}
 use Rattle.gb_laws.proofs.points.PointParts.{removed}
@@ -111,16 +113,19 @@ module _ (Cause : ℕ → Type 0) (o : Occasion)
   }
 
 -- where no connection is idle
-pub fit-other : (m : Moment) (e : HostEvent) (h : Host) → ((k : ℕ) → e ≡ host_event.Idle k → ⊥)
-    → IsCaused m e h → AreEverFit m (host_turn e h).acts
+pub fit-other : (m : Moment) (e : Notice) (h : Host)
+    → ((k : ℕ) → e ≡ at_event (host_event.Idle k) → ⊥) → IsCaused m e h
+    → AreEverFit m (turn_of e h).acts
 fit-other m e h other cause =
-    over-turn e h (fit_law (λ k. (b : Bus) → IsShutFor m k b) (at_event e h)
+    over-turn e h (fit_law (λ k. (b : Bus) → IsShutFor m k b) (at_notice e h)
     (λ i c l g why found. closing i c l g found why) (λ i l g why j b.
     let k = subst (λ y. IsCaused m y h) why.0 cause in
-    removed i l k.1 (subst (λ y. IsIn l (links_of i y)) (why.1 ∙ k.0) j) refl))
+    let of = in-filter (λ (x : Link). x.intf == i) g.links l j in
+    removed k.primary i l k.noticed k.known (filter-in (λ (x : Link). x.intf == i)
+    m.before.host.links l (k.links l (subst (λ (y : Host). IsIn l y.links) why.1 of.0)) of.1) refl))
   where
     closing : (i c : ℕ) (l : Link) (g : Host) → link_at i c g ≡ Some l
-        → IsClosingFor (at_event e h) g i c → (b : Bus) → IsShutFor m l.connection b
+        → IsClosingFor (at_notice e h) g i c → (b : Bus) → IsShutFor m l.connection b
     closing i c l g found (by_disconnect why) b =
         let k = subst (λ y. IsCaused m y h) why.0 cause in
         disconnected i c l k.1 (ap (link_at i c) (sym (why.1 ∙ k.0)) ∙ found) refl
@@ -160,11 +165,11 @@ fit-idle m b k h first none = by (link_of k h) refl
     by (Some l) found = on l found (is_draining l.state) refl
 
 -- What the application processor does at what it takes notice of is fit.
-pub fit-turn : (m : Moment) (b : Bus) (e : HostEvent) (h : Host) → IsOver m e b → IsCaused m e h
-    → AreFit m b (host_turn e h).acts
-fit-turn m b (host_event.Idle k) h over cause = fit-idle m b k h cause over
+pub fit-turn : (m : Moment) (b : Bus) (e : Notice) (h : Host) → IsOver m e b → IsCaused m e h
+    → AreFit m b (turn_of e h).acts
+fit-turn m b (at_event (host_event.Idle k)) h over cause = fit-idle m b k h cause over
 fit-turn m b e h over cause =
-    ever-fit m b (host_turn e h).acts (fit-other m e h (λ k f. absurd cc) cause)
+    ever-fit m b (turn_of e h).acts (fit-other m e h (λ k f. absurd cc) cause)
 
 tells-quiet : (Cause : ℕ → Type 0) (es : List Entry) → Each (IsFitFor Cause) (map Act.Tell es)
     → AreQuiet es

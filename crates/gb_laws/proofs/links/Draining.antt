@@ -4,20 +4,20 @@ use Rattle.std.proofs.Common.{Bool, List, None, Some, ap, cond, false, inl, inr,
 use Rattle.std.proofs.Common.{true, ℕ, [], ◌++◌, ◌∙◌, ◌∷◌, ◌≡◌}
 use Rattle.std.specs.List.{find}
 use Rattle.std.specs.Prelude.{Option, not, ◌==◌}
-use Rattle.gb_base.specs.declared.host_event.HostEvent.{HostEvent}
 use Rattle.gb_base.specs.declared.peers.Link.{Link}
 use Rattle.gb_base.specs.declared.steps.{Purpose.Purpose, SequenceStep.SequenceStep}
 use Rattle.gb_base.specs.declared.entry.ConnState.TheVariants as state
 use Rattle.gb_machine.specs.Host.{Host, in_state, is_draining, is_link, link_at, link_of}
 use Rattle.gb_machine.specs.Host.{with_interface, with_link}
-use Rattle.gb_machine.specs.{Failures.unsent, HostTurns.host_turn, Lists.at_first, Lists.without}
+use Rattle.gb_machine.specs.{Failures.unsent, Lists.at_first, Lists.without}
 use Rattle.gb_machine.specs.{Members.Each, Members.EachTwo, Members.IsIn}
 use Rattle.gb_machine.specs.{SequenceSteps.is_enumeration, Waits.waiting}
-use Rattle.gb_invariants.proofs.HostChanges.{HostChange, HostEnd, Occasion, TurnLaw, at_event}
+use Rattle.gb_invariants.proofs.HostChanges.{HostChange, HostEnd, Occasion, TurnLaw, at_notice}
 use Rattle.gb_invariants.proofs.HostChanges.{at_unsent, end_of, host_after}
 use Rattle.gb_invariants.proofs.Lists.{each-from, each-in, each-weaker, found-in, two-filter}
 use Rattle.gb_invariants.proofs.Lists.{two-pushed}
 use Rattle.gb_invariants.proofs.{Awaiting.not-both, OverTurns.over-turn, OverTurns.over-unsent}
+use Rattle.gb_invariants.proofs.HostChanges.{Notice, turn_of}
 use Rattle.gb_laws.proofs.links.LinkHosts.{awaits-link, state-link}
 use Rattle.gb_laws.proofs.links.LinkLists.{is-link, link-is}
 use Rattle.gb_laws.proofs.links.Links.{SameLink}
@@ -142,9 +142,9 @@ drains_law o = record {
 }
 
 -- It is so behind each turn, and where a request can't be made.
-pub drains-turn : (e : HostEvent) (h : Host) → FirstDrains h.links
-    → FirstDrains (host_turn e h).host.links
-drains-turn e h = over-turn e h (drains_law (at_event e h))
+pub drains-turn : (e : Notice) (h : Host) → FirstDrains h.links
+    → FirstDrains (turn_of e h).host.links
+drains-turn e h = over-turn e h (drains_law (at_notice e h))
 
 pub drains-unsent : (p : Purpose) (h : Host) → FirstDrains h.links
     → FirstDrains (unsent p h).host.links

@@ -296,6 +296,7 @@ awaited-plugs p n {s} = by (is_for_connection p.step) (link_at p.intf p.cport (a
       plugged = λ i. refl;
       powered = λ i e. e;
       differ = λ h. h;
+      whole = λ h. h;
     }
 
     by : (t : Bool) (o : Option Link)

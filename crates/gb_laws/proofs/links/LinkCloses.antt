@@ -4,23 +4,23 @@ use Rattle.std.proofs.Common.{Bool, List, None, Option, Some, ap, cond, false, i
 use Rattle.std.proofs.Common.{subst, sym, true, ℕ, ⊎_elim, [], ◌++◌, ◌∙◌, ◌∷◌, ◌≡◌, ◌≢◌, ◌⊎◌}
 use Rattle.std.specs.Prelude.{◌==◌}
 use Rattle.gb_base.specs.declared.entry.ConnState.{ConnState}
-use Rattle.gb_base.specs.declared.host_event.HostEvent.{HostEvent}
 use Rattle.gb_base.specs.declared.peers.Link.{Link}
 use Rattle.gb_base.specs.declared.steps.{Purpose.Purpose, SequenceStep.SequenceStep}
 use Rattle.gb_base.specs.declared.entry.ConnState.TheVariants as state
 use Rattle.gb_base.specs.declared.steps.SequenceStep.TheVariants as steps
 use Rattle.gb_machine.specs.Host.{Host, in_state, is_link, link_at, with_interface, with_link}
 use Rattle.gb_machine.specs.Host.{without_link}
-use Rattle.gb_machine.specs.HostTurns.{host_turn, links_left, links_of, without_interface}
+use Rattle.gb_machine.specs.HostTurns.{links_left, links_of, without_interface}
 use Rattle.gb_machine.specs.Turns.{Act, Turn}
 use Rattle.gb_machine.specs.{Bus.Bus, Failures.unsent, Members.IsIn, SequenceSteps.is_enumeration}
 use Rattle.gb_machine.specs.{Sequences.enumerated, Waits.waiting}
 use Rattle.gb_invariants.proofs.HostChanges.{Completes, Finds, HostChange, HostEnd, IsFor, IsLast}
-use Rattle.gb_invariants.proofs.HostChanges.{MayTurnTo, Occasion, TurnLaw, acts_by, at_event}
+use Rattle.gb_invariants.proofs.HostChanges.{MayTurnTo, Occasion, TurnLaw, acts_by, at_notice}
 use Rattle.gb_invariants.proofs.HostChanges.{at_unsent, by_disconnect, by_idle, end_of, host_after}
 use Rattle.gb_invariants.proofs.Lists.{found-in, in-behind, in-front, in-without}
 use Rattle.gb_invariants.proofs.{Awaiting.same-some, Found.in-first, OverTurns.over-turn}
 use Rattle.gb_invariants.proofs.{OverTurns.over-unsent}
+use Rattle.gb_invariants.proofs.HostChanges.{Notice, turn_of}
 use Rattle.gb_laws.proofs.{links.LinkEnds.resumed, links.LinkEnds.waits-for, links.Links.HostFits}
 use Rattle.gb_laws.proofs.{links.Links.IsDue}
 
@@ -193,8 +193,8 @@ module _ (o : Occasion) (closed : (p : Purpose) (h : Host)
 -- ---- turns
 
 -- the connection of the last request of a close is closing
-last-closing : {b : Bus} (e : HostEvent) (before : Host) → HostFits b before → (p : Purpose)
-    (h : Host) → Completes (at_event e before) p steps.DestroyConnection h → (l : Link)
+last-closing : {b : Bus} (e : Notice) (before : Host) → HostFits b before → (p : Purpose)
+    (h : Host) → Completes (at_notice e before) p steps.DestroyConnection h → (l : Link)
     → link_at p.intf p.cport h ≡ Some l → IsClosing l.connection h
 last-closing {b} e before fits p h done l found = record {
   link = l;
@@ -204,9 +204,9 @@ last-closing {b} e before fits p h done l found = record {
       (resumed b p before fits (waits-for done.0.number p fits done.0.awaited)).due)).state l found;
 }
 
-pub closes-turn : {b : Bus} (e : HostEvent) {h : Host} → HostFits b h → TurnCloses h (host_turn e h)
+pub closes-turn : {b : Bus} (e : Notice) {h : Host} → HostFits b h → TurnCloses h (turn_of e h)
 closes-turn e {h} fits =
-    over-turn e h (closes_law (at_event e h) (last-closing e h fits))
+    over-turn e h (closes_law (at_notice e h) (last-closing e h fits))
 
 -- where a request can't be made
 none-closed : (p : Purpose) (x : HostChange) (h : Host) → IsFor (at_unsent p) h x → ClosesNone x

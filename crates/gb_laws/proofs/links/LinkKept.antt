@@ -2,7 +2,6 @@
 use Rattle.std.proofs.Common.{List, None, ap, refl, subst, sym, ℕ, [], ◌∙◌, ◌∷◌, ◌≡◌, ◌≢◌}
 use Rattle.std.specs.Prelude.{◌-◌}
 use Rattle.gb_base.specs.declared.host_event.HostEvent.TheVariants as host_event
-use Rattle.gb_base.specs.declared.host_event.HostEvent.{HostEvent}
 use Rattle.gb_base.specs.declared.refusal.Refusal.TheVariants as why
 use Rattle.gb_base.specs.declared.end.Side.{Side}
 use Rattle.gb_base.specs.declared.end.End.TheVariants as end
@@ -15,11 +14,14 @@ use Rattle.gb_machine.specs.Bus.{Bus, Connection, end_of}
 use Rattle.gb_machine.specs.Host.{Host, control_of, interface_of, with_link, with_new_interface}
 use Rattle.gb_machine.specs.Turns.{Act, Turn}
 use Rattle.gb_machine.specs.{HostRefusals.connect_conditions, HostRefusals.disconnect_conditions}
-use Rattle.gb_machine.specs.{HostServing.host_serves, HostTurns.host_turn}
+use Rattle.gb_machine.specs.{HostServing.host_serves}
 use Rattle.gb_machine.specs.{LineActions.spent, Lists.holds_of, Members.IsIn, Refusals.has_no_label}
+use Rattle.gb_machine.specs.Lists.{span}
 use Rattle.gb_machine.specs.{Runs.Moment, Wiring.shut_down}
 use Rattle.gb_machine.specs.HostRefusals.{drain_conditions}
 use Rattle.gb_invariants.proofs.{BusChanges.BusChange}
+use Rattle.gb_invariants.proofs.HostChanges.{Notice, at_removal, turn_of}
+use Rattle.gb_invariants.proofs.HostChanges.{at_event, at_insertion}
 use Rattle.gb_laws.proofs.links.LinkActs.{linked-asked, linked-link, linked-served, linked-unsent}
 use Rattle.gb_laws.proofs.links.LinkBuses.{linked-left, linked-opened, linked-rest, linked-shut}
 use Rattle.gb_laws.proofs.links.LinkTurns.{fits-connects, fits-inserted, fits-removed}
@@ -36,31 +38,35 @@ use Rattle.gb_laws.proofs.{links.LinkFrom.Linked}
 use Rattle.gb_laws.proofs.{points.Places.module-far, points.Places.place-is}
 use Rattle.gb_laws.proofs.links.LinkClosing.{fits-drains, fits-idle}
 
--- an interface whose insertion is handled at a moment is absent
+-- an interface of a module whose insertion is handled at a moment is absent
 abbrev pub InsertsAbsent : Moment → Type 0
-InsertsAbsent m = (i : ℕ) → IsNoticed m (host_event.Inserted i) → interface_of i m.before.host ≡ None
+InsertsAbsent m = (p count i : ℕ) → IsNoticed m (host_event.Inserted p count)
+    → IsIn i (span p count) → interface_of i m.before.host ≡ None
 
 -- the application processor with the interface that is inserted
-abbrev pub noticed_host : HostEvent → Host → Host
-noticed_host (host_event.Inserted i) h = with_new_interface i h
+abbrev pub noticed_host : Notice → Host → Host
+noticed_host (at_insertion p i) h = with_new_interface p i h
 noticed_host e h = h
 
-pub same-links : (e : HostEvent) (h : Host) → (noticed_host e h).links ≡ h.links
-same-links (host_event.Inserted i) h = refl
+pub same-links : (e : Notice) (h : Host) → (noticed_host e h).links ≡ h.links
+same-links (at_insertion p i) h = refl
 same-links e h = refl
 
 -- what the application processor does at what it takes notice of
-pub turn-fits : (m : Moment) (b : Bus) (e : HostEvent) (h : Host) → InsertsAbsent m → IsCaused m e h
-    → HostFits b h → TurnFits b (noticed_host e h) (host_turn e h)
-turn-fits m b (host_event.Inserted i) h absent cause fits =
-    fits-inserted b i h fits (ap (interface_of i) cause.0 ∙ absent i cause.1)
-turn-fits m b (host_event.Removed i) h absent cause fits = fits-removed b i h fits
-turn-fits m b (host_event.Connect i c) h absent cause fits =
+pub turn-fits : (m : Moment) (b : Bus) (e : Notice) (h : Host) → InsertsAbsent m → IsCaused m e h
+    → HostFits b h → TurnFits b (noticed_host e h) (turn_of e h)
+turn-fits m b (at_insertion p i) h absent cause fits =
+    fits-inserted b p i h fits
+    (cause.absent (absent p cause.count i cause.noticed cause.within))
+turn-fits m b (at_removal i) h absent cause fits = fits-removed b i h fits
+turn-fits m b (at_event (host_event.Inserted p count)) h absent cause fits = absurd cause
+turn-fits m b (at_event (host_event.Removed p)) h absent cause fits = absurd cause
+turn-fits m b (at_event (host_event.Connect i c)) h absent cause fits =
     fits-connects b i c h fits (subst (λ g. AreUnmet (connect_conditions i c g)) (sym cause.0)
     (front-unmet (connect_conditions i c m.before.host)
     ((has_no_label 1 side.Ap m.before, why.NoLabel) ∷ [])
     (free m.before (event.Connect i c) cause.2))) cause.3
-turn-fits m b (host_event.Disconnect i c) h absent cause fits =
+turn-fits m b (at_event (host_event.Disconnect i c)) h absent cause fits =
     fits-disconnects b i c h fits (subst (λ g. AreUnmet (disconnect_conditions i c g)) (sym cause.0)
     (front-unmet (disconnect_conditions i c m.before.host)
     ((
@@ -68,11 +74,11 @@ turn-fits m b (host_event.Disconnect i c) h absent cause fits =
       why.NoLabel,
     ) ∷ [])
     (free m.before (event.Disconnect i c) cause.2)))
-turn-fits m b (host_event.Drain i c) h absent cause fits =
+turn-fits m b (at_event (host_event.Drain i c)) h absent cause fits =
     fits-drains b i c h fits (subst (λ g. AreUnmet (drain_conditions i c g)) (sym cause.0)
     (free m.before (event.Drain i c) cause.2))
-turn-fits m b (host_event.Idle k) h absent cause fits = fits-idle b k h fits
-turn-fits m b (host_event.Ended n how) h absent cause fits = fits-ended b n how h fits
+turn-fits m b (at_event (host_event.Idle k)) h absent cause fits = fits-idle b k h fits
+turn-fits m b (at_event (host_event.Ended n how)) h absent cause fits = fits-ended b n how h fits
 
 -- what is known of live connections behind a turn
 followed-known : (c : Connection) (ls : List Link) {after : List Link} (acts : List Act)
@@ -103,8 +109,8 @@ linked-fits {h} {t} same fits f = record {
   made = f.made;
 }
 
-linked-turn : (m : Moment) {b : Bus} (e : HostEvent) {h : Host} → InsertsAbsent m → IsCaused m e h
-    → Linked b h [] → Linked b (host_turn e h).host (host_turn e h).acts
+linked-turn : (m : Moment) {b : Bus} (e : Notice) {h : Host} → InsertsAbsent m → IsCaused m e h
+    → Linked b h [] → Linked b (turn_of e h).host (turn_of e h).acts
 linked-turn m {b} e {h} absent cause f =
     linked-fits (same-links e h) (turn-fits m b e h absent cause f.host) f
 

@@ -3,32 +3,34 @@ use Rattle.std.proofs.Common.{Bool, List, None, Option, Some, ap, cond, false, i
 use Rattle.std.proofs.Common.{subst, sym, true, ℕ, ⊎_elim, [], ◌∙◌, ◌∷◌, ◌≡◌}
 use Rattle.std.specs.{List.find, Prelude.option_map, Prelude.◌==◌}
 use Rattle.gb_base.specs.declared.host_event.HostEvent.TheVariants as host_event
-use Rattle.gb_base.specs.declared.host_event.HostEvent.{HostEvent}
 use Rattle.gb_base.specs.declared.peers.Link.{Link}
 use Rattle.gb_base.specs.declared.steps.{Purpose.Purpose, SequenceStep.SequenceStep}
 use Rattle.gb_base.specs.declared.outcome.Outcome.TheVariants as outcome
 use Rattle.gb_base.specs.declared.steps.SequenceStep.TheVariants as steps
 use Rattle.gb_machine.specs.Host.{Host, is_link, link_at}
-use Rattle.gb_machine.specs.HostTurns.{host_turn, links_left, links_of}
+use Rattle.gb_machine.specs.HostTurns.{host_inserted, host_removed, host_turn, links_left, links_of}
 use Rattle.gb_machine.specs.Waits.{awaits_nothing, interface_waits, link_waits, purpose_in}
 use Rattle.gb_machine.specs.{Bus.Bus, Bus.or_else, Failures.told_of, Members.IsIn}
 use Rattle.gb_machine.specs.{SequenceSteps.is_enumeration, SequenceSteps.purpose, Turns.Act}
 use Rattle.gb_invariants.proofs.HostChanges.{Finds, HostChange, HostEnd, IsAnswered, IsFor, acts_by}
-use Rattle.gb_invariants.proofs.HostChanges.{at_event, end_of}
+use Rattle.gb_invariants.proofs.HostChanges.{at_notice, end_of}
 use Rattle.gb_invariants.proofs.{Awaiting.not-both, Awaiting.same-some, Found.find-changed}
 use Rattle.gb_invariants.proofs.{Lists.in-append, Lists.in-filter, Outcomes.same-number}
 use Rattle.gb_invariants.proofs.{OverTurns.over-turn}
+use Rattle.gb_invariants.proofs.HostChanges.{Notice, at_removal, turn_of}
+use Rattle.gb_invariants.proofs.HostChanges.{at_event}
+use Rattle.gb_invariants.proofs.HostChanges.{at_insertion}
 use Rattle.gb_laws.proofs.{links.LinkActs.none-leaves, links.LinkLists.found-at}
 use Rattle.gb_laws.proofs.{links.Links.HostFits}
 use Rattle.gb_laws.proofs.{removals.QuietAwaited.waited-in}
 
 -- A connection is given up where the removal of its interface is handled, or where the last request
 -- of its close was answered.
-pub data WhyLeft (h : Host) (e : HostEvent) (k : ℕ) : Type 0 where
-  removed : (i : ℕ) (l : Link) → e ≡ host_event.Removed i → IsIn l h.links → l.intf ≡ i
+pub data WhyLeft (h : Host) (e : Notice) (k : ℕ) : Type 0 where
+  removed : (i : ℕ) (l : Link) → e ≡ at_removal i → IsIn l h.links → l.intf ≡ i
       → l.connection ≡ k → WhyLeft h e k
   closed : (n result : ℕ) (payload : List ℕ) (l : Link)
-      → e ≡ host_event.Ended n (outcome.Answered result payload) → IsIn l h.links
+      → e ≡ at_event (host_event.Ended n (outcome.Answered result payload)) → IsIn l h.links
       → l.awaits ≡ Some (n, steps.DestroyConnection) → l.connection ≡ k → WhyLeft h e k
 
 -- a connection that waits for a request
@@ -71,7 +73,7 @@ abbrev idle : Link → Link
 idle l = record l { awaits = None }
 
 -- the connection that a close waits on is the one that is found behind its last answer
-why-closed : (b : Bus) (h : Host) (e : HostEvent) (p : Purpose) (l : Link) → HostFits b h
+why-closed : (b : Bus) (h : Host) (e : Notice) (p : Purpose) (l : Link) → HostFits b h
     → IsAnswered e h p → p.step ≡ steps.DestroyConnection
     → link_at p.intf p.cport (awaits_nothing p h) ≡ Some l → WhyLeft h e l.connection
 why-closed b h e p l fits r last found = by (interface_waits r.number h.interfaces) refl r.awaited
@@ -113,10 +115,10 @@ leave-in (l ∷ ls) k (inr (inr (inl e))) = absurd cc
 leave-in (l ∷ ls) k (inr (inr (inr j))) = let w = leave-in ls k j in (w.0, inr w.1, w.2)
 
 -- a connection that a turn gives up
-module _ (e : HostEvent) (h : Host) (closing : (p : Purpose) (l : Link) → IsAnswered e h p
+module _ (e : Notice) (h : Host) (closing : (p : Purpose) (l : Link) → IsAnswered e h p
     → p.step ≡ steps.DestroyConnection → link_at p.intf p.cport (awaits_nothing p h) ≡ Some l
     → WhyLeft h e l.connection) where
-  change-left : (x : HostChange) (g : Host) → Finds g x → IsFor (at_event e h) g x → (k : ℕ)
+  change-left : (x : HostChange) (g : Host) → Finds g x → IsFor (at_notice e h) g x → (k : ℕ)
       → IsIn (Act.Leave k) (acts_by x g) → WhyLeft h e k
   change-left (HostChange.tells f) g finds why k j = absurd (none-leaves k (f ∷ []) j)
   change-left (HostChange.departs i) g finds why k j =
@@ -147,7 +149,7 @@ module _ (e : HostEvent) (h : Host) (closing : (p : Purpose) (l : Link) → IsAn
   end-left (HostEnd.makes a protocol p) g k (inl f) = absurd cc
   end-left (HostEnd.makes a protocol p) g k (inr j) = j
 
-  left-by : (k : ℕ) → IsIn (Act.Leave k) (host_turn e h).acts → WhyLeft h e k
+  left-by : (k : ℕ) → IsIn (Act.Leave k) (turn_of e h).acts → WhyLeft h e k
   left-by k = over-turn e h (record {
     says = λ g t. IsIn (Act.Leave k) t.acts → WhyLeft h e k;
     ends = λ x g last j. absurd (end-left x g k j);
@@ -156,8 +158,8 @@ module _ (e : HostEvent) (h : Host) (closing : (p : Purpose) (l : Link) → IsAn
   })
 
 -- Why a turn gives up a connection.
-pub why-left : (b : Bus) (e : HostEvent) (h : Host) (k : ℕ) → HostFits b h
-    → IsIn (Act.Leave k) (host_turn e h).acts → WhyLeft h e k
+pub why-left : (b : Bus) (e : Notice) (h : Host) (k : ℕ) → HostFits b h
+    → IsIn (Act.Leave k) (turn_of e h).acts → WhyLeft h e k
 why-left b e h k fits =
     left-by e h (λ p l answered last found. why-closed b h e p l fits answered last found) k
 
@@ -165,8 +167,28 @@ why-left b e h k fits =
 pub idle-leaves : (n : ℕ) (h : Host) (k : ℕ)
     → IsIn (Act.Leave k) (host_turn (host_event.Idle n) h).acts → ⊥
 idle-leaves n h k j =
-    by (left-by (host_event.Idle n) h (λ p l answered. let is = answered.is in absurd cc) k j)
+    by (left-by (at_event (host_event.Idle n)) h
+    (λ p l answered. let is = answered.is in absurd cc) k j)
   where
-    by : WhyLeft h (host_event.Idle n) k → ⊥
+    by : WhyLeft h (at_event (host_event.Idle n)) k → ⊥
     by (removed i l is live at on) = absurd cc
+    by (closed m result payload l is live awaits on) = absurd cc
+
+-- Where an interface is removed they are known connections, and none is where one is inserted.
+pub removal-leaves : (i : ℕ) (h : Host) (k : ℕ) → IsIn (Act.Leave k) (host_removed i h).acts
+    → (l : Link) × IsIn l h.links × (l.connection ≡ k)
+removal-leaves i h k j =
+    by (left-by (at_removal i) h (λ p l answered. let is = answered.is in absurd cc) k j)
+  where
+    by : WhyLeft h (at_removal i) k → (l : Link) × IsIn l h.links × (l.connection ≡ k)
+    by (removed n l is live at on) = (l, live, on)
+    by (closed m result payload l is live awaits on) = absurd cc
+
+pub insertion-leaves : (p i : ℕ) (h : Host) (k : ℕ) → IsIn (Act.Leave k) (host_inserted p i h).acts
+    → ⊥
+insertion-leaves p i h k j =
+    by (left-by (at_insertion p i) h (λ q l answered. let is = answered.is in absurd cc) k j)
+  where
+    by : WhyLeft h (at_insertion p i) k → ⊥
+    by (removed n l is live at on) = absurd cc
     by (closed m result payload l is live awaits on) = absurd cc

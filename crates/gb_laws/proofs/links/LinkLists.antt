@@ -105,8 +105,8 @@ in-only i f (y ∷ ys) x differ j e = by (is_intf i y) refl j (in-only i f ys x 
         (sym (ap (λ (z : Interface). z.intf) k) ∙ e) ∙ is-same i) is)
     by false is (inr k) rec = let r = rec k e in (r.0, inr r.1, r.2)
 
--- an interface more, in its order
-pub ordered-in : (before : Interface → Interface → Bool) (y : Interface) (ys : List Interface)
+-- a member more, in its order
+pub ordered-in : {A : Type 0} (before : A → A → Bool) (y : A) (ys : List A)
     → IsIn y (in_order before y ys)
 ordered-in before y [] = inl refl
 ordered-in before y (z ∷ zs) = by (before y z) (ordered-in before y zs)
@@ -116,7 +116,7 @@ ordered-in before y (z ∷ zs) = by (before y z) (ordered-in before y zs)
     by true j = inl refl
     by false j = inr j
 
-pub ordered-stays : (before : Interface → Interface → Bool) (x y : Interface) (ys : List Interface)
+pub ordered-stays : {A : Type 0} (before : A → A → Bool) (x y : A) (ys : List A)
     → IsIn x ys → IsIn x (in_order before y ys)
 ordered-stays before x y [] i = absurd i
 ordered-stays before x y (z ∷ zs) i = by (before y z) i (ordered-stays before x y zs)

@@ -6,12 +6,13 @@ use Rattle.gb_base.specs.declared.peers.Link.{Link}
 use Rattle.gb_base.specs.declared.steps.SequenceStep.{SequenceStep}
 use Rattle.gb_machine.specs.Host.{Host, is_link, with_link}
 use Rattle.gb_machine.specs.{Bus.Connection, Failures.unsent, HostServing.host_serves}
-use Rattle.gb_machine.specs.{HostServing.with_credits, HostTurns.host_turn, LineActions.spent}
+use Rattle.gb_machine.specs.{HostServing.with_credits, LineActions.spent}
 use Rattle.gb_machine.specs.{Members.IsIn, Runs.Moment, Waits.awaits, Wiring.new_connection}
 use Rattle.gb_machine.specs.{Wiring.next_connection}
 use Rattle.gb_invariants.proofs.{Awaiting.same-some, BusChanges.bus_after, BusChanges.left_by}
 use Rattle.gb_invariants.proofs.{Found.in-first, Lists.in-behind, Lists.in-pushed, Wires.IsAlive}
 use Rattle.gb_invariants.proofs.{Wires.alive-after}
+use Rattle.gb_invariants.proofs.HostChanges.{turn_of}
 use Rattle.gb_laws.proofs.links.LinkActs.{ServedHost, as_before, awaited-host, host-served}
 use Rattle.gb_laws.proofs.links.LinkActs.{with_more}
 use Rattle.gb_laws.proofs.links.LinkSources.{LinksFrom, from-turn, from-unsent, from-waiting}
@@ -58,7 +59,7 @@ alive-kept m a x links h = by-bus (λ b. AreAlive b.connections (changed m a x).
     by : (x : Change m a)
         → AreAlive (bus_after (bus_change x) a.state.bus).connections (changed m a x).state.host
     by (turns e free untouched none cause) =
-        alive-from a.state.bus.connections a.state.host (host_turn e a.state.host).host
+        alive-from a.state.bus.connections a.state.host (turn_of e a.state.host).host
         (from-turn e a.state.host) h
     by (acts_left k rest free untouched is) = λ l i. on (acts_left k rest free untouched is) l i
         (λ e. (subst (ArePending a.state.host) is links.pending).0.1 l i

@@ -1,21 +1,21 @@
 -- The application processor's connections go with the bus, and insertions and removals come in
 -- turn,
 -- throughout.
-use Rattle.std.proofs.Common.{List, None, Option, Some, ap, false, inl, refl, subst, sym, [], ◌∙◌}
-use Rattle.std.proofs.Common.{◌≡◌}
+use Rattle.std.proofs.Common.{List, None, Option, Some, ap, false, inl, map, refl, subst, sym, ℕ}
+use Rattle.std.proofs.Common.{[], ◌∙◌, ◌∷◌, ◌≡◌}
 use Rattle.gb_base.specs.declared.end.End.{End}
 use Rattle.gb_base.specs.declared.entry.Entry.{Entry}
 use Rattle.gb_base.specs.declared.event.Event.{Event}
 use Rattle.gb_base.specs.declared.event.Event.TheVariants as event
 use Rattle.gb_base.specs.declared.refusal.Refusal.{Refusal}
 use Rattle.gb_formats.specs.Module.{Module, module_of_kind, module_raw}
-use Rattle.gb_machine.proofs.{Conditions.AreUnmet, Conditions.free, Opened.machine_opened}
+use Rattle.gb_machine.proofs.{Conditions.free, Opened.machine_opened}
 use Rattle.gb_machine.specs.Runs.{IsMoment, Moment, after}
 use Rattle.gb_machine.specs.{Bus.first_bus, Bus.svc_connection, Events.decided, Events.step}
-use Rattle.gb_machine.specs.{Plugging.plugs, Refusals.insert_conditions, Refusals.refusal}
+use Rattle.gb_machine.specs.{Plugging.plugs, Refusals.refusal}
 use Rattle.gb_machine.specs.{State.State, State.first_state}
 use Rattle.gb_invariants.proofs.Awaiting.{none-some, not-both}
-use Rattle.gb_laws.proofs.basis.Basics.{Based, basis-first, rested}
+use Rattle.gb_laws.proofs.basis.Basics.{Based, basis-first, none-made, rested}
 use Rattle.gb_laws.proofs.marks.MarkMoments.{inserts-absent, marks-delivered, marks-still}
 use Rattle.gb_laws.proofs.marks.MarkMoments.{refused-state}
 use Rattle.gb_laws.proofs.points.Points.{IsOfSvc, Law, upon}
@@ -24,11 +24,12 @@ use Rattle.gb_laws.proofs.{links.LinkFrom.Linked, links.LinkKept.InsertsAbsent}
 use Rattle.gb_laws.proofs.{links.LinkLaw.link_law}
 use Rattle.gb_laws.proofs.{links.LinkLaw.linked-first, marks.MarkFrame.asked-items}
 use Rattle.gb_laws.proofs.{marks.MarkFrame.taken_bus}
-use Rattle.gb_laws.proofs.{marks.MarkPlugs.boot-kept, marks.MarkPlugs.plug-kept}
+use Rattle.gb_laws.proofs.{marks.MarkBoots.boot-kept, marks.MarkPlugs.plug-kept}
 use Rattle.gb_laws.proofs.{marks.MarkPulls.pull-kept}
 use Rattle.gb_laws.proofs.{marks.Marks.MarksFit, points.PointParts.resting, steps.Steps.over-step}
 use Rattle.gb_laws.proofs.{svc.SvcThere.There}
 use Rattle.gb_laws.proofs.{svc.SvcThere.there-kept}
+use Rattle.gb_laws.proofs.marks.PlugParts.{CanPlug, kinds-plug, raw-plug}
 
 -- What is known at rest of the application processor's connections, and of insertions and removals.
 abbrev pub LinkedTo : List Entry → State → Type 0
@@ -60,24 +61,24 @@ module _ (m : Moment) (one : IsMoment m.event) (start : LinkedTo m.told m.before
           (ap (λ x. (step m.before x).state) is ∙ ap (λ o. (decided o e m.before).state) f))
           (done f)
 
-  plugged : (i : _) (x : Module) (manifest : List _)
-      → AreUnmet (insert_conditions m.before i manifest) → MarksFit (plugs i x m.before).state
-  plugged i x manifest met =
-      plug-kept i x m.before (asked-items (resting m.told m.before) start.0) met.0 start.2
+  plugged : (i : ℕ) (ms : List Module) → CanPlug i ms m.before.modules
+      → MarksFit (plugs i ms m.before).state
+  plugged i ms can =
+      plug-kept i ms m.before can start.2 (asked-items (resting m.told m.before) start.0)
 
   marks-kept : (e : Event) → m.event ≡ e → IsMoment e → MarksFit (after m)
   unfolding machine_opened
   marks-kept event.Boot is at = asking event.Boot is (λ allowed.
       boot-kept m.before (asked-items (resting m.told m.before) start.0)
       (free m.before event.Boot allowed).0 start.2)
-  marks-kept (event.Insert i kind) is at = asking (event.Insert i kind) is
-      (λ allowed. plugged i (module_of_kind kind) [] (free m.before (event.Insert i kind) allowed))
+  marks-kept (event.Insert i kinds) is at = asking (event.Insert i kinds) is
+      (λ allowed. plugged i (map module_of_kind kinds) (kinds-plug m.before i kinds at allowed))
   marks-kept (event.InsertRaw i manifest) is at = asking (event.InsertRaw i manifest) is
-      (λ allowed. plugged i (module_raw manifest) manifest
-      (free m.before (event.InsertRaw i manifest) allowed))
+      (λ allowed. plugged i (module_raw manifest ∷ []) (raw-plug m.before i manifest at allowed))
   marks-kept (event.Pull i) is at = asking (event.Pull i) is (λ allowed.
       pull-kept i m.before start.0.bus.numbers.rise (asked-items (resting m.told m.before) start.0)
-      start.1 start.3 (free m.before (event.Pull i) allowed).1.0 start.2)
+      (λ c j on. (start.1.svc c j on).peer) start.3
+      (free m.before (event.Pull i) allowed).1.0 start.2)
   marks-kept (event.Deliver to) is at =
       marks-delivered m one start.0 start.1 start.2 (λ of. subst IsOfSvc is of) to is
   marks-kept (event.Settle most) is at = absurd at
@@ -95,6 +96,8 @@ marks-first_state = record {
   unstarted = λ e i. (refl, refl);
   differ = tt;
   pulled = λ n i e. absurd (not-both false e refl);
+  whole = λ x i. absurd i;
+  told = λ n r made on far p count notice. absurd (none-made n r made);
 }
 
 there-first_state : There first_bus

@@ -4,18 +4,18 @@ use Rattle.std.proofs.Common.{Bool, None, Option, ap, cond, false, inl, inr, ref
 use Rattle.std.proofs.Common.{ℕ, ⊎_elim, ◌∙◌, ◌≡◌, ◌⊎◌}
 use Rattle.std.specs.Prelude.{◌==◌}
 use Rattle.gb_base.specs.declared.entry.ConnState.{ConnState}
-use Rattle.gb_base.specs.declared.host_event.HostEvent.{HostEvent}
 use Rattle.gb_base.specs.declared.peers.Link.{Link}
 use Rattle.gb_base.specs.declared.steps.{Purpose.Purpose, SequenceStep.SequenceStep}
 use Rattle.gb_base.specs.declared.entry.ConnState.TheVariants as state
 use Rattle.gb_machine.specs.Host.{Host, in_state, is_link, with_interface, with_link, without_link}
-use Rattle.gb_machine.specs.{Failures.unsent, HostTurns.host_turn, HostTurns.without_interface}
+use Rattle.gb_machine.specs.{Failures.unsent, HostTurns.without_interface}
 use Rattle.gb_machine.specs.{Members.IsIn, SequenceSteps.is_enumeration}
 use Rattle.gb_machine.specs.{Waits.waiting}
-use Rattle.gb_invariants.proofs.HostChanges.{HostChange, HostEnd, Occasion, TurnLaw, at_event}
+use Rattle.gb_invariants.proofs.HostChanges.{HostChange, HostEnd, Occasion, TurnLaw, at_notice}
 use Rattle.gb_invariants.proofs.HostChanges.{at_unsent, end_of, host_after}
 use Rattle.gb_invariants.proofs.{Found.in-first, Lists.in-without, OverTurns.over-turn}
 use Rattle.gb_invariants.proofs.{OverTurns.over-unsent}
+use Rattle.gb_invariants.proofs.HostChanges.{Notice, turn_of}
 use Rattle.gb_laws.proofs.links.LinkHosts.{awaits-link, same-link, state-link, then-same}
 use Rattle.gb_laws.proofs.links.Links.{SameLink}
 
@@ -128,8 +128,8 @@ from_law o = record {
 }
 
 -- Each turn keeps credits.
-pub from-turn : (e : HostEvent) (h : Host) → LinksFrom None h (host_turn e h).host
-from-turn e h = over-turn e h (from_law (at_event e h))
+pub from-turn : (e : Notice) (h : Host) → LinksFrom None h (turn_of e h).host
+from-turn e h = over-turn e h (from_law (at_notice e h))
 
 -- So does what fails where a request can't be made.
 pub from-unsent : (p : Purpose) (h : Host) → LinksFrom None h (unsent p h).host

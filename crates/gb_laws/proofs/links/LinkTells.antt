@@ -3,20 +3,20 @@ use Rattle.std.proofs.Common.{List, None, Some, inl, inr, map, refl, sym, ℕ, [
 use Rattle.std.proofs.Common.{◌≡◌}
 use Rattle.std.specs.Prelude.{◌==◌}
 use Rattle.gb_base.specs.declared.entry.{ConnState.ConnState, Entry.Entry}
-use Rattle.gb_base.specs.declared.host_event.HostEvent.{HostEvent}
 use Rattle.gb_base.specs.declared.peers.Link.{Link}
 use Rattle.gb_base.specs.declared.steps.Purpose.{Purpose}
 use Rattle.gb_base.specs.declared.entry.ConnState.TheVariants as state
 use Rattle.gb_base.specs.declared.entry.Entry.TheVariants as entry
 use Rattle.gb_machine.specs.Host.{Host, is_link, link_at}
-use Rattle.gb_machine.specs.HostTurns.{host_turn, links_left, links_of}
+use Rattle.gb_machine.specs.HostTurns.{links_left, links_of}
 use Rattle.gb_machine.specs.{Failures.link_told, Failures.unsent, Members.Each, Members.IsIn}
 use Rattle.gb_machine.specs.Turns.{Act}
 use Rattle.gb_invariants.proofs.HostChanges.{Finds, HostChange, HostEnd, IsOfNone, Occasion}
-use Rattle.gb_invariants.proofs.HostChanges.{TurnLaw, acts_by, at_event, at_unsent, end_of}
+use Rattle.gb_invariants.proofs.HostChanges.{TurnLaw, acts_by, at_notice, at_unsent, end_of}
 use Rattle.gb_invariants.proofs.HostChanges.{host_after}
 use Rattle.gb_invariants.proofs.{Lists.found-in, Lists.in-filter, OverTurns.over-turn}
 use Rattle.gb_invariants.proofs.{OverTurns.over-unsent}
+use Rattle.gb_invariants.proofs.HostChanges.{Notice, turn_of}
 use Rattle.gb_laws.proofs.links.LinkSources.{LinksFrom, change-from}
 
 -- an entry on a connection tells of one that is known
@@ -105,8 +105,8 @@ tells_law o = record {
 
 -- ---- turns
 
-pub turns-tell : (e : HostEvent) (h : Host) → ActsTell h (host_turn e h).acts
-turns-tell e h = over-turn e h (tells_law (at_event e h))
+pub turns-tell : (e : Notice) (h : Host) → ActsTell h (turn_of e h).acts
+turns-tell e h = over-turn e h (tells_law (at_notice e h))
 
 -- where a request can't be made
 pub unsent-told : (p : Purpose) (h : Host) → Each (TellsLink h) (unsent p h).told

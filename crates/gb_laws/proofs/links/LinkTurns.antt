@@ -44,32 +44,32 @@ absent-none b i h fits absent l j = by (is_link i 0 l) refl
         absurd (not-both (is_intf i p.interface) (ap (λ n. n == i) (p.is ∙ at.0) ∙ is-same i)
         (find-none (is_intf i) h.interfaces p.interface absent p.known))
 
-pub fits-inserted : (b : Bus) (i : ℕ) (h : Host) → HostFits b h → interface_of i h ≡ None
-    → TurnFits b (with_new_interface i h) (host_inserted i h)
-fits-inserted b i h fits absent =
-    fits-telling b (with_new_interface i h) (entry.Interface i stage.Enumerating)
-    (step_asked (purpose i 0 steps.EnableVsys) (with_new_interface i h))
+pub fits-inserted : (b : Bus) (p i : ℕ) (h : Host) → HostFits b h → interface_of i h ≡ None
+    → TurnFits b (with_new_interface p i h) (host_inserted p i h)
+fits-inserted b p i h fits absent =
+    fits-telling b (with_new_interface p i h) (entry.Interface i stage.Enumerating)
+    (step_asked (purpose i 0 steps.EnableVsys) (with_new_interface p i h))
     (fits-asked (purpose i 0 steps.EnableVsys) (record {
       links = fits.links;
       interfaces = λ x j. ⊎_elim (λ e. subst (IsEnumerating h.links) (sym e)
           (λ w f. absurd (none-some f)))
-          (λ o. fits.interfaces x o) (in-ordered intf_before x (new_interface i) h.interfaces j);
-      differ = ordered-differ intf_before (new_interface i) h.interfaces
+          (λ o. fits.interfaces x o) (in-ordered intf_before x (new_interface p i) h.interfaces j);
+      differ = ordered-differ intf_before (new_interface p i) h.interfaces
           (λ x j e. other x j (sym e)) fits.differ;
-      present = λ l j. let p = fits.present l j in
+      present = λ l j. let q = fits.present l j in
           record {
-            interface = p.interface;
-            known = ordered-stays intf_before p.interface (new_interface i) h.interfaces p.known;
-            is = p.is;
+            interface = q.interface;
+            known = ordered-stays intf_before q.interface (new_interface p i) h.interfaces q.known;
+            is = q.is;
           };
     }) (record {
       cport = refl;
       none = λ e. absent-none b i h fits absent;
       idle = λ x j e. ⊎_elim (λ f. ap (λ (y : Interface). y.awaits) f) (λ o. absurd (other x o e))
-          (in-ordered intf_before x (new_interface i) h.interfaces j);
+          (in-ordered intf_before x (new_interface p i) h.interfaces j);
       present = record {
-        interface = new_interface i;
-        known = ordered-in intf_before (new_interface i) h.interfaces;
+        interface = new_interface p i;
+        known = ordered-in intf_before (new_interface p i) h.interfaces;
         is = refl;
       };
     }) (λ e. absurd cc))

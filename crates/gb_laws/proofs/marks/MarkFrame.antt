@@ -14,25 +14,27 @@ use Rattle.gb_machine.specs.Sending.{Draft, drawn, put, queued, sent}
 use Rattle.gb_machine.specs.{Delivery.popped, Incoming.Incoming, Incoming.reply_item}
 use Rattle.gb_machine.specs.{Members.EachTwo, Members.IsIn, Runs.Moment}
 use Rattle.gb_machine.specs.{Serving.Answer, SvcQueues.items_in, SvcQueues.svc_items}
-use Rattle.gb_invariants.proofs.BusChanges.{KeepsRequests, becomes, found-after, number_of}
+use Rattle.gb_invariants.proofs.BusChanges.{BusChange, KeepsRequests, becomes, bus_after}
+use Rattle.gb_invariants.proofs.BusChanges.{found-after, number_of}
 use Rattle.gb_invariants.proofs.{Awaiting.sent-request, Labels.asked_on, Labels.asked_on-number}
 use Rattle.gb_invariants.proofs.{Numbers.found-number, Selves.drawn-queue, Selves.module-no-svc}
-use Rattle.gb_laws.proofs.marks.Marks.{AreAsked, AreElsewhere, item_mark, marks, marks-first}
-use Rattle.gb_laws.proofs.marks.Marks.{marks-more}
-use Rattle.gb_laws.proofs.marks.Marks.{marks-unmarked, marks_of, plugged_at}
+use Rattle.gb_invariants.proofs.Awaiting.{sent-made}
+use Rattle.gb_invariants.proofs.Selves.{ap-no-far}
+use Rattle.gb_laws.proofs.marks.Marks.{AreAsked, AreInserted, item_mark, marks, marks-first}
+use Rattle.gb_laws.proofs.marks.Marks.{marks-more, marks-unmarked, marks_of}
 use Rattle.gb_laws.proofs.points.Points.{Change, IsAskedBy, IsElse, IsOfSvc, acts_asked, asks}
-use Rattle.gb_laws.proofs.points.Points.{by_far}
-use Rattle.gb_laws.proofs.points.Points.{by_host, by_module, by_svc, changed, injects, names}
-use Rattle.gb_laws.proofs.points.Points.{others}
-use Rattle.gb_laws.proofs.points.Points.{recalls, replies, takes, unwires}
+use Rattle.gb_laws.proofs.points.Points.{by_far, by_host, by_module, by_svc, changed, injects}
+use Rattle.gb_laws.proofs.points.Points.{names, others, recalls, replies, takes, unwires}
 use Rattle.gb_laws.proofs.svc.SvcThere.{not-one, svc-new, svc-stays}
 use Rattle.gb_laws.proofs.{points.Awaited.awaited-rest, points.ChangeBuses.bus_change}
 use Rattle.gb_laws.proofs.{points.ChangeBuses.keeps-requests, links.LinkActs.awaited-plugs}
-use Rattle.gb_laws.proofs.{links.LinkFrom.Linked, links.LinkKept.InsertsAbsent}
+use Rattle.gb_laws.proofs.{links.LinkFrom.Linked}
 use Rattle.gb_laws.proofs.{links.LinkKept.LinkedAt}
 use Rattle.gb_laws.proofs.{marks.MarkKnown.KnownAt, marks.MarkKnown.known-kept}
 use Rattle.gb_laws.proofs.{points.PointParts.Basis}
 use Rattle.gb_laws.proofs.{points.PointParts.Point}
+use Rattle.gb_laws.proofs.marks.Wholes.{AreElsewhere, AreWhole, plugged_at}
+use Rattle.gb_laws.proofs.points.ChangeBuses.{by-bus}
 
 -- the bus once the item of an event is taken
 abbrev pub popped_at : Option Place → Bus → Bus
@@ -51,6 +53,8 @@ pub record FrameAt (m : Moment) (a : Point) : Type 0 where
   pub started : a.state.booted ≡ m.before.booted
   pub plugged : (i : ℕ) → plugged_at i a.state.modules ≡ plugged_at i m.before.modules
   pub differ : EachTwo AreElsewhere a.state.modules
+  pub whole : AreWhole a.state.modules
+  pub told : AreInserted a.state.bus
   pub pulled : a.state.past.pulled ≡ m.before.past.pulled
   pub keeps : KeepsRequests m.before.bus a.state.bus
 
@@ -181,9 +185,44 @@ marks-kept m a (names name d c label free live drawn host) none other basis link
 marks-kept m a (takes at p item free start is named front) none other basis links i ps = absurd none
 marks-kept m a x none other basis links i ps = marks-still m a x tt links i ps
 
-pub frame-kept : (m : Moment) → InsertsAbsent m → (IsOfSvc m.event → ⊥)
+-- ---- insertions that were told
+
+-- no request of the supervisory controller's is made
+abbrev AsksElse : BusChange → Type 0
+AsksElse (BusChange.sends d label) = d.connection ≡ 1 → d.side ≡ side.Far → ⊥
+AsksElse _ = Unit {0}
+
+inserted-after : (x : BusChange) (b : Bus) → AsksElse x → AreInserted b
+    → AreInserted (bus_after x b)
+inserted-after (BusChange.sends d label) b none h n r made on far p count notice = ⊎_elim
+    (λ old. h n r old on far p count notice) (λ new. absurd (none
+    (ap (λ (q : Request). q.connection) (sym new.1) ∙ on)
+    (ap (λ (q : Request). q.side) (sym new.1) ∙ far)))
+    (sent-made d label b n r made)
+inserted-after _ b none h n r made on far p count notice = h n r made on far p count notice
+
+inserted-kept : (m : Moment) (a : Point) (x : Change m a) → (IsOfSvc m.event → ⊥) → LinkedAt a
+    → AreInserted a.state.bus → AreInserted (changed m a x).state.bus
+inserted-kept m a x other links h =
+    by-bus AreInserted x (inserted-after (bus_change x) a.state.bus (by x) h)
+  where
+    asked : (d : Draft) (c : Connection) → connection_of d.connection a.state.bus ≡ Some c
+        → IsAskedBy m a c d → d.connection ≡ 1 → d.side ≡ side.Far → ⊥
+    asked d c live (by_host q rest is e none) one far =
+        ap-no-far (ap (λ (x : Draft). x.side) (sym e) ∙ far)
+    asked d c live (by_far (by_module j p e at) on) one far =
+        let f = found-number d.connection a.state.bus c live in
+        module-no-svc (sym e ∙ (links.svc c f.0 (f.1 ∙ one)).peer)
+    asked d c live (by_far (by_svc of at) on) one far = other of
+
+    by : (x : Change m a) → AsksElse (bus_change x)
+    by (asks d c label free live drawn who) = asked d c live who
+    by (names name d c label free live drawn host) = λ one far. ap-no-far (sym host.0 ∙ far)
+    by _ = tt
+
+pub frame-kept : (m : Moment) → (IsOfSvc m.event → ⊥)
     → (a : Point) (x : Change m a) → Basis a → LinkedAt a → FrameAt m a → FrameAt m (changed m a x)
-frame-kept m absent other a (takes at p item free start is named front) basis links h = record {
+frame-kept m other a (takes at p item free start is named front) basis links h = record {
   same = λ i ps. ap (λ s. marks i ps (popped p.connection.number p.side s.bus)) start
       ∙ sym (ap (λ e. marks i ps (taken_bus e m.before.bus)) is
       ∙ ap (λ o. marks i ps (popped_at o m.before.bus)) named);
@@ -191,19 +230,23 @@ frame-kept m absent other a (takes at p item free start is named front) basis li
   started = h.started;
   plugged = h.plugged;
   differ = h.differ;
+  whole = h.whole;
+  told = h.told;
   pulled = h.pulled;
   keeps = h.keeps;
 }
-frame-kept m absent other a (acts_asked q n rest is) basis links h = record {
+frame-kept m other a (acts_asked q n rest is) basis links h = record {
   same = λ i ps. marks-kept m a (acts_asked q n rest is) tt other basis links i ps ∙ h.same i ps;
-  known = known-kept m absent a (acts_asked q n rest is) links h.known;
+  known = known-kept m a (acts_asked q n rest is) h.known;
   started = (awaited-plugs q.purpose n).started ∙ h.started;
   plugged = λ i. (awaited-plugs q.purpose n).plugged i ∙ h.plugged i;
   differ = (awaited-plugs q.purpose n).differ h.differ;
+  whole = (awaited-plugs q.purpose n).whole h.whole;
+  told = inserted-kept m a (acts_asked q n rest is) other links h.told;
   pulled = (awaited-rest q.purpose n).pulled ∙ h.pulled;
   keeps = λ k r made. keeps-requests m a (acts_asked q n rest is) k r (h.keeps k r made);
 }
-frame-kept m absent other a (others booted marks ports modules same) basis links h = by same
+frame-kept m other a (others booted marks ports modules same) basis links h = by same
   where
     by : IsElse m a booted marks ports modules
         → FrameAt m (changed m a (others booted marks ports modules same))
@@ -213,17 +256,21 @@ frame-kept m absent other a (others booted marks ports modules same) basis links
       started = s.0.started ∙ h.started;
       plugged = λ i. s.0.plugged i ∙ h.plugged i;
       differ = s.0.differ h.differ;
+      whole = s.0.whole h.whole;
+      told = h.told;
       pulled = h.pulled;
       keeps = h.keeps;
     }
     by (inr of) = absurd (other of.0)
-frame-kept m absent other a (recalls n i of made) basis links h = absurd (other of)
-frame-kept m absent other a x basis links h = record {
+frame-kept m other a (recalls n i of made) basis links h = absurd (other of)
+frame-kept m other a x basis links h = record {
   same = λ i ps. marks-kept m a x tt other basis links i ps ∙ h.same i ps;
-  known = known-kept m absent a x links h.known;
+  known = known-kept m a x h.known;
   started = h.started;
   plugged = h.plugged;
   differ = h.differ;
+  whole = h.whole;
+  told = inserted-kept m a x other links h.told;
   pulled = h.pulled;
   keeps = λ k r made. keeps-requests m a x k r (h.keeps k r made);
 }

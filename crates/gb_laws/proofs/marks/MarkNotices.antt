@@ -20,7 +20,7 @@ use Rattle.gb_machine.specs.HostServing.{HostServed, credited, host_refuses, int
 use Rattle.gb_machine.specs.HostServing.{notified_by, served_on, serves_gpio, serves_svc}
 use Rattle.gb_machine.specs.HostServing.{serves_uart, uart_notified_by}
 use Rattle.gb_machine.specs.Incoming.{Incoming, incoming, request_in}
-use Rattle.gb_machine.specs.SvcQueues.{HandlesRemoval, inserts, is_told, items_in, svc_items}
+use Rattle.gb_machine.specs.SvcQueues.{HandlesRemoval, is_told, items_in, svc_items}
 use Rattle.gb_machine.specs.{Lists.behind_first, Lists.first, Runs.Moment, State.State}
 use Rattle.gb_invariants.proofs.Awaiting.{none-some, not-both, same-some}
 use Rattle.gb_invariants.proofs.{Found.find-none, ItemChanges.first-in, Numbers.found-by_number}
@@ -29,8 +29,9 @@ use Rattle.gb_invariants.specs.Facts.{is_numbered}
 use Rattle.gb_laws.proofs.links.Links.{IsKnown, leaving, linked, supervisory}
 use Rattle.gb_laws.proofs.points.PointParts.{Basis, IsNoticed, resting}
 use Rattle.gb_laws.proofs.marks.Marks.{MarksFit, Reads, known_at, mark_in, marks_of, notice_of}
-use Rattle.gb_laws.proofs.marks.Marks.{plugged_at, request_mark}
+use Rattle.gb_laws.proofs.marks.Marks.{request_mark}
 use Rattle.gb_laws.proofs.{links.LinkFrom.Linked, points.Places.place-is}
+use Rattle.gb_laws.proofs.marks.Wholes.{plugged_at}
 
 -- ---- nothing is noticed on the connection of a module
 
@@ -67,7 +68,7 @@ unnoticed l kind payload h =
 
 -- the record that says so
 abbrev pub Tells : HostEvent → Result SvcAsk PayloadFault → Type 0
-Tells (host_event.Inserted i) r = inserts i r ≡ true
+Tells (host_event.Inserted p count) r = (flags : ℕ) × (r ≡ Ok (SvcAsk.ModuleInserted p count flags))
 Tells (host_event.Removed i) r = r ≡ Ok (SvcAsk.ModuleRemoved i)
 Tells _ r = ⊥
 
@@ -75,7 +76,7 @@ told-by : (e : HostEvent) (r : Result SvcAsk PayloadFault) (h : Host)
     → (notified_by r h).notices ≡ Some e → Tells e r
 told-by e (Ok (SvcAsk.ModuleInserted j count flags)) h f =
     subst (λ x. Tells x (Ok (SvcAsk.ModuleInserted j count flags)))
-    (same-some (host_event.Inserted j) e f) (is-same j)
+    (same-some (host_event.Inserted j count) e f) (flags, refl)
 told-by e (Ok (SvcAsk.ModuleRemoved j)) h f =
     subst (λ x. Tells x (Ok (SvcAsk.ModuleRemoved j))) (same-some (host_event.Removed j) e f) refl
 told-by e _ h f = absurd cc
@@ -99,8 +100,8 @@ told-svc e kind payload h f = by (far-reads (row_of svc_asks kind) payload)
   where
     none : (e : HostEvent) → Tells e (Err PayloadFault.UnknownKind)
         → Tells e (read_svc_ask kind payload)
-    none (host_event.Inserted i) t = absurd cc
-    none (host_event.Removed i) t = absurd cc
+    none (host_event.Inserted p count) t = let e = t.1 in absurd cc
+    none (host_event.Removed p) t = absurd cc
     none _ t = absurd t
 
     by : (read_svc_ask_of_svc kind payload ≡ read_svc_ask kind payload)

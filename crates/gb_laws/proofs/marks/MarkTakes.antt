@@ -18,21 +18,30 @@ use Rattle.gb_machine.specs.{Delivery.popped, Delivery.without_front, HostServin
 use Rattle.gb_machine.specs.{Lists.behind_first, Lists.first, Members.IsIn, Runs.Moment, Runs.after}
 use Rattle.gb_machine.specs.SvcQueues.{is_told, items_in}
 use Rattle.gb_invariants.proofs.{Awaiting.not-both, Awaiting.same-some, Found.find-changed}
-use Rattle.gb_invariants.proofs.{ItemChanges.first-in, Numbers.found-by_number, Outcomes.is-same}
+use Rattle.gb_invariants.proofs.{ItemChanges.first-in, Numbers.found-by_number}
 use Rattle.gb_invariants.proofs.{Outcomes.same-number, Selves.ap-no-far, Selves.front-self}
+use Rattle.gb_invariants.proofs.ModuleTurns.{in-span}
 use Rattle.gb_laws.proofs.marks.MarkNotices.{first-behind, notice-any, svc-front}
-use Rattle.gb_laws.proofs.marks.Marks.{Mark, came, item_mark, mark_in, marks, marks-first, marks_of}
-use Rattle.gb_laws.proofs.marks.Marks.{notice_of, request_mark, went}
+use Rattle.gb_laws.proofs.marks.Marks.{Mark, came, item_mark, known-in, known_at, mark_in, marks}
+use Rattle.gb_laws.proofs.marks.Marks.{marks-first, marks_of, notice_of, request_mark, went}
 use Rattle.gb_laws.proofs.points.PointParts.{Basis, IsNoticed, resting}
 use Rattle.gb_laws.proofs.{links.LinkFrom.Linked, points.Places.place-is}
 use Rattle.gb_laws.proofs.{links.Removing.removed-absent}
+use Rattle.gb_laws.proofs.marks.MarkKnown.{IsInserted}
+use Rattle.gb_laws.proofs.marks.Wholes.{is_within, true-within}
+
+-- no insertion of an interface is handled at a moment
+abbrev pub IsUninserted : Moment → ℕ → Type 0
+IsUninserted m i = (q : ℕ) → IsInserted m i q → ⊥
 
 -- What becomes of the marks of an interface at a moment.
 pub data Taken (m : Moment) (i : ℕ) (ms later : List Mark) : Type 0 where
-  none_taken : ms ≡ later → (IsNoticed m (host_event.Inserted i) → ⊥) → Taken m i ms later
-  insertion : ms ≡ came i ∷ later → Taken m i ms later
-  removal : (p : ℕ) (own : Bool) → ms ≡ went p own ∷ later → interface_of p (after m).host ≡ None
-      → (IsNoticed m (host_event.Inserted i) → ⊥) → Taken m i ms later
+  none_taken : ms ≡ later → IsUninserted m i → Taken m i ms later
+  insertion : (p : ℕ) → ms ≡ came p ∷ later → ((q : ℕ) → IsInserted m i q → q ≡ p)
+      → Taken m i ms later
+  removal : (p : ℕ) (own : Bool) → ms ≡ went p own ∷ later
+      → (known_at i m.before.host ≡ Some p → interface_of i (after m).host ≡ None)
+      → IsUninserted m i → Taken m i ms later
 
 -- no connection to a module has number 1
 pub no-link-one : (b : Bus) (ls : List Link) → ((l : Link) → IsIn l ls → 2 ≤ l.connection)
@@ -60,12 +69,13 @@ module _ (m : Moment) (basis : Basis (resting m.told m.before))
   elsewhere at p i ps named is keeps other =
       none_taken (sym (marks-first i ps m.before.bus p.connection.number (without_front p.side)
       m.before.bus.connections (λ c. (front-self p.side c).number) keeps))
-      (λ n. let s = same-place n in other (ap (λ (q : Place). q.side) (sym s) ∙ n.side)
-      (ap (λ (q : Place). q.connection.number) (sym s)
-      ∙ (svc-front m (host_event.Inserted i) n basis links).one))
+      (λ q n. let s = same-place (host_event.Inserted q n.count) n.noticed in
+      other (ap (λ (x : Place). x.side) (sym s) ∙ n.noticed.side)
+      (ap (λ (x : Place). x.connection.number) (sym s)
+      ∙ (svc-front m (host_event.Inserted q n.count) n.noticed basis links).one))
     where
-      same-place : (n : IsNoticed m (host_event.Inserted i)) → n.place ≡ p
-      same-place n =
+      same-place : (e : HostEvent) (n : IsNoticed m e) → n.place ≡ p
+      same-place e n =
           same-some n.place p (sym n.named
           ∙ ap (λ e. place_of e m.before.bus.connections) (same-at n.at at (sym n.event ∙ is))
           ∙ named)
@@ -126,12 +136,10 @@ module _ (m : Moment) (basis : Basis (resting m.told m.before))
 
       -- what is noticed is what the front request says
       notice-front : (n : ℕ) (r : Request) → item ≡ Ask n → request_of n m.before.bus ≡ Some r
-          → IsNoticed m (host_event.Inserted i)
-          → notice_of r.kind r.payload ≡ Some (host_event.Inserted i)
-      notice-front n r item_is made noticed =
-          let f = svc-front m (host_event.Inserted i) noticed basis links in
-          let numbers = same-ask f.number n
-          (sym f.item ∙ same-place (host_event.Inserted i) noticed ∙ item_is) in
+          → (e : HostEvent) → IsNoticed m e → notice_of r.kind r.payload ≡ Some e
+      notice-front n r item_is made e noticed =
+          let f = svc-front m e noticed basis links in
+          let numbers = same-ask f.number n (sym f.item ∙ same-place e noticed ∙ item_is) in
           let same = same-some f.request r
           (sym f.made ∙ ap (λ k. request_of k m.before.bus) numbers ∙ made) in
           ap (λ (q : Request). notice_of q.kind q.payload) (sym same) ∙ f.notice
@@ -139,7 +147,7 @@ module _ (m : Moment) (basis : Basis (resting m.told m.before))
           same-ask : (x y : ℕ) → Ask x ≡ Ask y → x ≡ y
           same-ask x y e = cc
 
-      unmarked : item_mark i ps m.before.bus item ≡ [] → (IsNoticed m (host_event.Inserted i) → ⊥)
+      unmarked : item_mark i ps m.before.bus item ≡ [] → IsUninserted m i
           → Taken m i (marks i ps m.before.bus)
           (marks i ps (popped p.connection.number p.side m.before.bus))
       unmarked e unnoted = none_taken
@@ -147,10 +155,10 @@ module _ (m : Moment) (basis : Basis (resting m.told m.before))
           unnoted
 
       -- an item that is no request is noticed by none
-      no-ask : ((n : ℕ) → item ≡ Ask n → ⊥) → IsNoticed m (host_event.Inserted i) → ⊥
-      no-ask other noticed =
-          let f = svc-front m (host_event.Inserted i) noticed basis links in
-          other f.number (sym (same-place (host_event.Inserted i) noticed) ∙ f.item)
+      no-ask : ((n : ℕ) → item ≡ Ask n → ⊥) → IsUninserted m i
+      no-ask other q n =
+          let f = svc-front m (host_event.Inserted q n.count) n.noticed basis links in
+          other f.number (sym (same-place (host_event.Inserted q n.count) n.noticed) ∙ f.item)
 
       asked : (n : ℕ) (r : Request) → item ≡ Ask n → request_of n m.before.bus ≡ Some r
           → (o : Option HostEvent) → notice_of r.kind r.payload ≡ o
@@ -167,26 +175,38 @@ module _ (m : Moment) (basis : Basis (resting m.told m.before))
               ∙ ap (request_mark i (is_told n i ps)) made ∙ ap (mark_in i (is_told n i ps)) e)
 
           other-notice : (x : Option HostEvent) → notice_of r.kind r.payload ≡ x
-              → (x ≡ Some (host_event.Inserted i) → ⊥) → IsNoticed m (host_event.Inserted i) → ⊥
-          other-notice x e other noticed = other (sym e ∙ notice-front n r item_is made noticed)
+              → ((q count : ℕ) → x ≡ Some (host_event.Inserted q count) → ⊥) → IsUninserted m i
+          other-notice x e other q w = other q w.count
+              (sym e ∙ notice-front n r item_is made (host_event.Inserted q w.count) w.noticed)
 
-          same-inserted : (x y : ℕ) → Some (host_event.Inserted x) ≡ Some (host_event.Inserted y)
-              → x ≡ y
-          same-inserted x y e = cc
+          same-inserted : (j count q many : ℕ)
+              → Some (host_event.Inserted j count) ≡ Some (host_event.Inserted q many)
+              → (q ≡ j) × (many ≡ count)
+          same-inserted j count q many e = (cc, cc)
 
-          inserted : (j : ℕ) → notice_of r.kind r.payload ≡ Some (host_event.Inserted j)
-              → (t : Bool) → (j == i) ≡ t → Taken m i (marks i ps m.before.bus)
+          -- what is noticed is this insertion
+          same-noticed : (j count : ℕ)
+              → notice_of r.kind r.payload ≡ Some (host_event.Inserted j count) → (q : ℕ)
+              → (n : IsInserted m i q) → (q ≡ j) × (n.count ≡ count)
+          same-noticed j count e q w = same-inserted j count q w.count
+              (sym e ∙ notice-front n r item_is made (host_event.Inserted q w.count) w.noticed)
+
+          inserted : (j count : ℕ)
+              → notice_of r.kind r.payload ≡ Some (host_event.Inserted j count)
+              → (t : Bool) → is_within j count i ≡ t → Taken m i (marks i ps m.before.bus)
               (marks i ps (popped p.connection.number p.side m.before.bus))
-          inserted j e true f = insertion (marked (host_event.Inserted j) e
-              ∙ ap (λ t. cond t (came j ∷ []) [] ++ marks i ps
-              (popped p.connection.number p.side m.before.bus)) f
-              ∙ ap (λ k. came k ∷ marks i ps
-              (popped p.connection.number p.side m.before.bus)) (same-number j i f))
-          inserted j e false f = none_taken (marked (host_event.Inserted j) e
+          inserted j count e true f = insertion j (marked (host_event.Inserted j count) e
               ∙ ap (λ t. cond t (came j ∷ []) [] ++ marks i ps
               (popped p.connection.number p.side m.before.bus)) f)
-              (other-notice (Some (host_event.Inserted j)) e
-              (λ g. not-both (j == i) (ap (λ k. k == i) (same-inserted j i g) ∙ is-same i) f))
+              (λ q w. (same-noticed j count e q w).0)
+          inserted j count e false f = none_taken (marked (host_event.Inserted j count) e
+              ∙ ap (λ t. cond t (came j ∷ []) [] ++ marks i ps
+              (popped p.connection.number p.side m.before.bus)) f)
+              (λ q w. let s = same-noticed j count e q w in
+              let of = in-span i q w.count w.within in
+              not-both (is_within j count i)
+              (ap (λ k. is_within k count i) (sym s.0) ∙ ap (λ k. is_within q k i) (sym s.1)
+              ∙ true-within q w.count i of.0 of.1) f)
 
           removed : (j : ℕ) → notice_of r.kind r.payload ≡ Some (host_event.Removed j)
               → Taken m i (marks i ps m.before.bus)
@@ -196,20 +216,22 @@ module _ (m : Moment) (basis : Basis (resting m.told m.before))
               ap (λ k. link_of k m.before.host) one ∙ no-link-one m.before.bus m.before.host.links
               (λ l k. (links.host.links.numbered l k).from_two) in
               removal j (is_told n i ps) (marked (host_event.Removed j) e)
-              (removed-absent m at p n j r is named ap_side (front ∙ ap Some item_is) made none
-              (ap (λ o. (served_on o r.kind r.payload m.before.host).notices) none
-              ∙ notice-any r.kind r.payload m.before.host first_host ∙ e))
-              (other-notice (Some (host_event.Removed j)) e (λ g. absurd cc))
+              (λ known. removed-absent m at p n j i r is named ap_side (front ∙ ap Some item_is)
+              made none (ap (λ o. (served_on o r.kind r.payload m.before.host).notices) none
+              ∙ notice-any r.kind r.payload m.before.host first_host ∙ e)
+              (known-in i j m.before.host known))
+              (other-notice (Some (host_event.Removed j)) e (λ q count g. absurd cc))
 
           by_notice : (x : Option HostEvent) → notice_of r.kind r.payload ≡ x
               → Taken m i (marks i ps m.before.bus)
               (marks i ps (popped p.connection.number p.side m.before.bus))
           by_notice None e = unmarked (ap (item_mark i ps m.before.bus) item_is
               ∙ ap (request_mark i (is_told n i ps)) made ∙ ap (mark_in i (is_told n i ps)) e)
-              (other-notice None e (λ g. absurd cc))
-          by_notice (Some (host_event.Inserted j)) e = inserted j e (j == i) refl
+              (other-notice None e (λ q count g. absurd cc))
+          by_notice (Some (host_event.Inserted j count)) e =
+              inserted j count e (is_within j count i) refl
           by_notice (Some (host_event.Removed j)) e = removed j e
-          by_notice (Some x) e = none_taken (marked x e) (other-notice _ e (λ g. absurd cc))
+          by_notice (Some x) e = none_taken (marked x e) (other-notice _ e (λ q count g. absurd cc))
 
       by : (x : Item) → item ≡ x → Taken m i (marks i ps m.before.bus)
           (marks i ps (popped p.connection.number p.side m.before.bus))

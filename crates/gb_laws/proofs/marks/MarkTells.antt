@@ -1,6 +1,7 @@
 -- What becomes of the marks of an interface where the supervisory controller asks.
 use Rattle.std.proofs.Common.{Bool, List, None, Option, Some, ap, append-nil, arith, cond, false}
-use Rattle.std.proofs.Common.{refl, subst, sym, true, ℕ, ⊎_elim, [], ◌++◌, ◌+◌, ◌∙◌, ◌∷◌, ◌≡◌}
+use Rattle.std.proofs.Common.{inl, inr, refl, subst, sym, true, ℕ, ⊎_elim, [], ◌++◌, ◌+◌, ◌∙◌, ◌∷◌}
+use Rattle.std.proofs.Common.{◌≡◌, ◌⊎◌}
 use Rattle.std.specs.Prelude.{option_map, ◌==◌}
 use Rattle.gb_base.specs.declared.end.Side.TheVariants as side
 use Rattle.gb_base.specs.declared.host_event.HostEvent.TheVariants as host_event
@@ -18,9 +19,9 @@ use Rattle.gb_invariants.proofs.BusChanges.{BusChange, KeepsRequests}
 use Rattle.gb_invariants.proofs.{Awaiting.sent-new, Awaiting.sent-request}
 use Rattle.gb_invariants.proofs.{Found.find-changed, Labels.asked_on, Labels.asked_on-number}
 use Rattle.gb_invariants.proofs.{Lists.in-pushed, Wires.WasWired, Wires.was-wired}
+use Rattle.gb_invariants.proofs.Awaiting.{sent-made}
 use Rattle.gb_laws.proofs.marks.Marks.{AreAsked, item_mark, mark_in, marks, marks-append}
-use Rattle.gb_laws.proofs.marks.Marks.{marks-more}
-use Rattle.gb_laws.proofs.marks.Marks.{marks_of, notice_of, request_mark}
+use Rattle.gb_laws.proofs.marks.Marks.{marks-more, marks_of, notice_of, request_mark}
 
 -- the requests that wait toward the application processor were made
 abbrev pub QueueIsAsked : Bus → Type 0
@@ -42,6 +43,8 @@ pub record AfterAsk (s t : State) (o : Option HostEvent) : Type 0 where
   pub asked : QueueIsAsked t.bus
   pub past : t.past ≡ s.past
   pub keeps : KeepsRequests s.bus t.bus
+  pub fresh : (n : ℕ) (r : Request) → request_of n t.bus ≡ Some r
+      → (request_of n s.bus ≡ Some r) ⊎ (notice_of r.kind r.payload ≡ o)
   pub marks_after : MarksAfter s.bus t.bus o
 
 -- a draft of the supervisory controller
@@ -151,10 +154,18 @@ after-ask ask {s} asked = wired (is_wired (connection_of 1 s.bus))
       asked = asked;
       past = refl;
       keeps = λ n r made. made;
+      fresh = λ n r made. inl made;
       ports = refl;
       wired = was-wired BusChange.rests s.bus refl;
       marks_after = untold (λ j ps. refl);
     }
+
+    fresh : (label n : ℕ) (r : Request) → request_of n (sent (svc_draft ask s) label s.bus) ≡ Some r
+        → (request_of n s.bus ≡ Some r)
+        ⊎ (notice_of r.kind r.payload ≡ notice_of (svc_ask_kind ask) (svc_ask_payload ask))
+    fresh label n r made = ⊎_elim (λ old. inl old)
+        (λ new. inr (ap (λ (q : Request). notice_of q.kind q.payload) new.1))
+        (sent-made (svc_draft ask s) label s.bus n r made)
 
     sent-by : (c : Connection) (label : ℕ) → connection_of 1 s.bus ≡ Some c → (t : Bool)
         → c.wired ≡ t → AfterAsk s (record s { bus = sent (svc_draft ask s) label s.bus })
@@ -167,6 +178,7 @@ after-ask ask {s} asked = wired (is_wired (connection_of 1 s.bus))
           asked = a.0;
           past = refl;
           keeps = sent-request (svc_draft ask s) label s.bus;
+          fresh = fresh label;
           ports = refl;
           wired = was-wired (BusChange.sends (svc_draft ask s) label) s.bus refl;
           marks_after = told a.1;
@@ -179,6 +191,7 @@ after-ask ask {s} asked = wired (is_wired (connection_of 1 s.bus))
           asked = a.0;
           past = refl;
           keeps = sent-request (svc_draft ask s) label s.bus;
+          fresh = fresh label;
           ports = refl;
           wired = was-wired (BusChange.sends (svc_draft ask s) label) s.bus refl;
           marks_after = untold (λ j ps. a.1 j ps ∙ append-nil (marks j ps s.bus));
@@ -230,9 +243,10 @@ ask-told ask s c label asked found wired free = subst (IsToldThen ask s) (sym se
 plus-zero : (i : ℕ) → i + 0 ≡ i
 plus-zero i = omega arith
 
-pub tells-inserted : (i : ℕ) → notice_of (svc_ask_kind (SvcAsk.ModuleInserted i 1 0))
-    (svc_ask_payload (SvcAsk.ModuleInserted i 1 0)) ≡ Some (host_event.Inserted i)
-tells-inserted i = ap (λ k. Some (host_event.Inserted k)) (plus-zero i)
+pub tells-inserted : (p count : ℕ) → notice_of (svc_ask_kind (SvcAsk.ModuleInserted p count 0))
+    (svc_ask_payload (SvcAsk.ModuleInserted p count 0)) ≡ Some (host_event.Inserted p count)
+tells-inserted p count = ap (λ k. Some (host_event.Inserted k (count + 0))) (plus-zero p)
+    ∙ ap (λ n. Some (host_event.Inserted p n)) (plus-zero count)
 
 pub tells-removed : (i : ℕ) → notice_of (svc_ask_kind (SvcAsk.ModuleRemoved i))
     (svc_ask_payload (SvcAsk.ModuleRemoved i)) ≡ Some (host_event.Removed i)

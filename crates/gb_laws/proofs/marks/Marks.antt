@@ -1,8 +1,9 @@
 -- The insertions and removals that the supervisory controller has told and that wait to be handled.
 use Rattle.std.proofs.Common.{Bool, List, None, Option, Some, ap, append-nil, append_assoc, arith}
 use Rattle.std.proofs.Common.{false, inl, inr, refl, sym, true, ℕ, [], ◌++◌, ◌∙◌, ◌∷◌, ◌≡◌, ◌≢◌}
-use Rattle.std.specs.List.{find}
-use Rattle.std.specs.Prelude.{if◌then◌else◌, is_some, option_map, ◌&&◌, ◌==◌, ◌||◌}
+use Rattle.std.proofs.lemmas.List.Folds.{list_any-append}
+use Rattle.std.specs.List.{find, list_any}
+use Rattle.std.specs.Prelude.{if◌then◌else◌, is_some, map, option_map, ◌&&◌, ◌==◌, ◌||◌}
 use Rattle.gb_base.specs.declared.end.Side.TheVariants as side
 use Rattle.gb_base.specs.declared.host_event.HostEvent.TheVariants as host_event
 use Rattle.gb_base.specs.declared.host_event.HostEvent.{HostEvent}
@@ -10,14 +11,16 @@ use Rattle.gb_base.specs.declared.peers.Interface.{Interface}
 use Rattle.gb_machine.specs.Bus.{Ask, Bus, Connection, Item, Raw, RawReply, Reply, Request}
 use Rattle.gb_machine.specs.Bus.{has_number, next_number, queue, request_of}
 use Rattle.gb_machine.proofs.Lists.{nth-past}
-use Rattle.gb_machine.specs.Host.{Host, first_host, interface_of, is_intf}
+use Rattle.gb_machine.specs.Host.{Host, first_host, interface_of, interfaces_of}
 use Rattle.gb_machine.specs.{HostServing.serves_svc, Lists.at_first, Members.EachTwo}
-use Rattle.gb_machine.specs.{Members.IsIn, Modules.is_plugged, Modules.is_plugged_at}
-use Rattle.gb_machine.specs.{State.Plugged, State.State, SvcQueues.is_told, SvcQueues.items_in}
+use Rattle.gb_machine.specs.{Members.IsIn}
+use Rattle.gb_machine.specs.{State.State, SvcQueues.is_told, SvcQueues.items_in}
 use Rattle.gb_machine.specs.{SvcQueues.svc_items}
 use Rattle.gb_invariants.proofs.Awaiting.{none-some, not-both, same-some}
-use Rattle.gb_invariants.proofs.{BusChanges.KeepsRequests, Found.found-first, Lists.found-in}
+use Rattle.gb_invariants.proofs.{BusChanges.KeepsRequests, Found.found-first}
 use Rattle.gb_invariants.proofs.{Outcomes.is-same, Outcomes.same-number}
+use Rattle.gb_invariants.proofs.ModuleHosts.{in-module}
+use Rattle.gb_laws.proofs.marks.Wholes.{AreElsewhere, AreWhole, IsRange, is_within, plugged_at}
 
 -- what a request of the supervisory controller makes the application processor take notice of
 abbrev pub notice_of : ℕ → List ℕ → Option HostEvent
@@ -32,7 +35,8 @@ pub data Mark : Type 0 where
 -- the mark of an interface in what is noticed, where it is known whether it tells that this was
 -- pulled
 abbrev pub mark_in : ℕ → Bool → Option HostEvent → List Mark
-mark_in i own (Some (host_event.Inserted p)) = if p == i then came p ∷ [] else []
+mark_in i own (Some (host_event.Inserted p count)) =
+    if is_within p count i then came p ∷ [] else []
 mark_in i own (Some (host_event.Removed p)) = went p own ∷ []
 mark_in i own _ = []
 
@@ -54,11 +58,7 @@ marks i ps b = marks_of i ps b (svc_items side.Ap b)
 
 -- the module that the application processor knows at an interface
 abbrev pub known_at : ℕ → Host → Option ℕ
-known_at i h = option_map (λ (x : Interface). x.intf) (interface_of i h)
-
--- the module that is plugged at an interface
-abbrev pub plugged_at : ℕ → List Plugged → Option ℕ
-plugged_at i modules = option_map (λ (p : Plugged). p.intf) (find (is_plugged_at i) modules)
+known_at i h = option_map (λ (x : Interface). x.primary) (interface_of i h)
 
 -- Marks are read from the module that is known at an interface. One comes only where none is known.
 -- One that goes from the interface is no other than the one that is known, and one that goes from
@@ -69,10 +69,6 @@ Reads known (came p ∷ ms) plugged = (known ≡ None) × Reads (Some p) ms plug
 Reads known (went p true ∷ ms) plugged =
     ((q : ℕ) → known ≡ Some q → q ≡ p) × Reads None ms plugged
 Reads known (went p false ∷ ms) plugged = (known ≢ Some p) × Reads known ms plugged
-
--- two modules are at different interfaces
-abbrev pub AreElsewhere : Plugged → Plugged → Type 0
-AreElsewhere p q = p.intf ≢ q.intf
 
 -- a request was made that told the removal of a module
 pub record IsRemoval (n : ℕ) (b : Bus) : Type 0 where
@@ -85,7 +81,14 @@ pub record IsRemoval (n : ℕ) (b : Bus) : Type 0 where
 abbrev pub ArePulled : List (ℕ × ℕ) → Bus → Type 0
 ArePulled ps b = (n i : ℕ) → is_told n i ps ≡ true → IsRemoval n b
 
+-- each insertion that the supervisory controller told is of a module that there can be
+abbrev pub AreInserted : Bus → Type 0
+AreInserted b = (n : ℕ) (r : Request) → request_of n b ≡ Some r → r.connection ≡ 1
+    → r.side ≡ side.Far → (p count : ℕ)
+    → notice_of r.kind r.payload ≡ Some (host_event.Inserted p count) → IsRange p count
+
 -- Insertions and removals come in turn, and none before the supervisory controller has started.
+-- What is plugged is whole.
 pub record MarksFit (s : State) : Type 0 where
   pub reads : (i : ℕ) → Reads (known_at i s.host) (marks i s.past.pulled s.bus)
       (plugged_at i s.modules)
@@ -93,73 +96,36 @@ pub record MarksFit (s : State) : Type 0 where
       → (i : ℕ) → (marks i s.past.pulled s.bus ≡ []) × (interface_of i s.host ≡ None)
   pub differ : EachTwo AreElsewhere s.modules
   pub pulled : ArePulled s.past.pulled s.bus
+  pub whole : AreWhole s.modules
+  pub told : AreInserted s.bus
 
--- ---- what is known and plugged
+-- ---- what is known
 
--- a module is named by its own interface
-pub known-primary : (i p : ℕ) (h : Host) → known_at i h ≡ Some p → p ≡ i
-known-primary i p h e = by (interface_of i h) refl e
+pub known-there : (i : ℕ) (h : Host) → is_some (interface_of i h) ≡ true
+    → (p : ℕ) × (known_at i h ≡ Some p)
+known-there i h e = by (interface_of i h) e
+  where
+    by : (o : Option Interface) → is_some o ≡ true
+        → (p : ℕ) × (option_map (λ (x : Interface). x.primary) o ≡ Some p)
+    by None g = absurd (not-both false g refl)
+    by (Some x) g = (x.primary, refl)
+
+-- it is one of the interfaces of its module
+pub known-in : (i p : ℕ) (h : Host) → known_at i h ≡ Some p → IsIn i (interfaces_of p h)
+known-in i p h e = by (interface_of i h) refl e
   where
     by : (o : Option Interface) → interface_of i h ≡ o
-        → option_map (λ (x : Interface). x.intf) o ≡ Some p → p ≡ i
+        → option_map (λ (x : Interface). x.primary) o ≡ Some p → IsIn i (interfaces_of p h)
     by None f g = absurd (none-some g)
-    by (Some x) f g = sym (same-some x.intf p g)
-        ∙ same-number x.intf i (found-in (is_intf i) h.interfaces x f).1
+    by (Some x) f g = in-module p i h x f (same-some x.primary p g)
 
-pub plugged-primary : (i p : ℕ) (ms : List Plugged) → plugged_at i ms ≡ Some p → p ≡ i
-plugged-primary i p ms e = by (find (is_plugged_at i) ms) refl e
-  where
-    by : (o : Option Plugged) → find (is_plugged_at i) ms ≡ o
-        → option_map (λ (x : Plugged). x.intf) o ≡ Some p → p ≡ i
-    by None f g = absurd (none-some g)
-    by (Some x) f g = sym (same-some x.intf p g)
-        ∙ same-number x.intf i (found-in (is_plugged_at i) ms x f).1
-
-pub known-there : (i : ℕ) (h : Host) → is_some (interface_of i h) ≡ true → known_at i h ≡ Some i
-known-there i h e = by (interface_of i h) refl e
-  where
-    by : (o : Option Interface) → interface_of i h ≡ o → is_some o ≡ true
-        → option_map (λ (x : Interface). x.intf) o ≡ Some i
-    by None f g = absurd (not-both false g refl)
-    by (Some x) f g = ap Some (same-number x.intf i (found-in (is_intf i) h.interfaces x f).1)
-
-pub plugged-there : (i : ℕ) (ms : List Plugged) → is_plugged i ms ≡ true → plugged_at i ms ≡ Some i
-plugged-there i ms e = by (find (is_plugged_at i) ms) refl e
-  where
-    by : (o : Option Plugged) → find (is_plugged_at i) ms ≡ o
-        → is_some (option_map (λ (x : Plugged). x.body) o) ≡ true
-        → option_map (λ (x : Plugged). x.intf) o ≡ Some i
-    by None f g = absurd (not-both false g refl)
-    by (Some x) f g = ap Some (same-number x.intf i (found-in (is_plugged_at i) ms x f).1)
-
--- nothing is known, or plugged
+-- nothing is known
 pub known-none : (i : ℕ) (h : Host) → known_at i h ≡ None → interface_of i h ≡ None
 known-none i h e = by (interface_of i h) e
   where
-    by : (o : Option Interface) → option_map (λ (x : Interface). x.intf) o ≡ None → o ≡ None
+    by : (o : Option Interface) → option_map (λ (x : Interface). x.primary) o ≡ None → o ≡ None
     by None f = refl
     by (Some x) f = absurd (none-some (sym f))
-
-pub plugged-none : (i : ℕ) (ms : List Plugged) → is_plugged i ms ≡ false → plugged_at i ms ≡ None
-plugged-none i ms e = by (find (is_plugged_at i) ms) e
-  where
-    by : (o : Option Plugged) → is_some (option_map (λ (x : Plugged). x.body) o) ≡ false
-        → option_map (λ (x : Plugged). x.intf) o ≡ None
-    by None f = refl
-    by (Some x) f = absurd (not-both true refl f)
-
--- a module is plugged still
-pub still-plugged : (i : ℕ) (ms ns : List Plugged) → plugged_at i ms ≡ plugged_at i ns
-    → is_plugged i ms ≡ is_plugged i ns
-still-plugged i ms ns e = there ms ∙ ap is_some e ∙ sym (there ns)
-  where
-    there : (xs : List Plugged) → is_plugged i xs ≡ is_some (plugged_at i xs)
-    there xs = by (find (is_plugged_at i) xs)
-      where
-        by : (o : Option Plugged) → is_some (option_map (λ (x : Plugged). x.body) o)
-            ≡ is_some (option_map (λ (x : Plugged). x.intf) o)
-        by None = refl
-        by (Some x) = refl
 
 -- ---- reading
 
@@ -273,48 +239,59 @@ marks-first i ps b k f cs same keeps =
 
 -- ---- pulls that are remembered
 
--- one more is remembered
-told-pushed : (k j : ℕ) (p : ℕ × ℕ) (ps : List (ℕ × ℕ))
-    → is_told k j (ps ++ p ∷ []) ≡ is_told k j ps || (p.0 == k && p.1 == j)
-told-pushed k j p [] = last (p.0 == k && p.1 == j)
+-- more are remembered
+told-append : (k j : ℕ) (ps qs : List (ℕ × ℕ))
+    → is_told k j (ps ++ qs) ≡ is_told k j ps || is_told k j qs
+told-append k j ps qs = list_any-append (λ p. p.0 == k && p.1 == j) ps qs
+
+-- those of one request
+told-of : (n k j : ℕ) (is : List ℕ)
+    → is_told k j (map (λ i. (n, i)) is) ≡ n == k && list_any (λ i. i == j) is
+told-of n k j [] = last (n == k)
   where
-    last : (t : Bool) → (t || false) ≡ t
+    last : (t : Bool) → false ≡ (t && false)
     last true = refl
     last false = refl
-told-pushed k j p (q ∷ qs) = ap (λ t. (q.0 == k && q.1 == j) || t) (told-pushed k j p qs)
-    ∙ same (q.0 == k && q.1 == j) (is_told k j qs) (p.0 == k && p.1 == j)
+told-of n k j (i ∷ is) = ap (λ t. (n == k && i == j) || t) (told-of n k j is)
+    ∙ same (n == k) (i == j) (list_any (λ i. i == j) is)
   where
-    same : (t u v : Bool) → (t || (u || v)) ≡ ((t || u) || v)
+    same : (t u v : Bool) → ((t && u) || (t && v)) ≡ (t && (u || v))
     same true u v = refl
     same false u v = refl
 
--- that is one of this request alone
-pub told-other : (n i k j : ℕ) (ps : List (ℕ × ℕ)) → (n == k) ≡ false
-    → is_told k j (ps ++ (n, i) ∷ []) ≡ is_told k j ps
-told-other n i k j ps e = told-pushed k j (n, i) ps ∙ ap (λ t. is_told k j ps || (t && i == j)) e
-    ∙ last (is_told k j ps)
+-- they are those of this request alone
+pub told-others : (n : ℕ) (is : List ℕ) (k j : ℕ) (ps : List (ℕ × ℕ)) → (n == k) ≡ false
+    → is_told k j (ps ++ map (λ i. (n, i)) is) ≡ is_told k j ps
+told-others n is k j ps e = told-append k j ps (map (λ i. (n, i)) is)
+    ∙ ap (λ t. is_told k j ps || t) (told-of n k j is
+    ∙ ap (λ t. t && list_any (λ i. i == j) is) e) ∙ last (is_told k j ps)
   where
     last : (t : Bool) → (t || false) ≡ t
     last true = refl
     last false = refl
+
+pub told-other : (n i k j : ℕ) (ps : List (ℕ × ℕ)) → (n == k) ≡ false
+    → is_told k j (ps ++ (n, i) ∷ []) ≡ is_told k j ps
+told-other n i k j ps e = told-others n (i ∷ []) k j ps e
 
 -- and of this interface alone
 pub told-elsewhere : (n i k j : ℕ) (ps : List (ℕ × ℕ)) → (i == j) ≡ false
     → is_told k j (ps ++ (n, i) ∷ []) ≡ is_told k j ps
-told-elsewhere n i k j ps e = told-pushed k j (n, i) ps
-    ∙ ap (λ t. is_told k j ps || (n == k && t)) e ∙ last (n == k) (is_told k j ps)
+told-elsewhere n i k j ps e = told-append k j ps ((n, i) ∷ [])
+    ∙ ap (λ t. is_told k j ps || ((n == k && t) || false)) e ∙ last (n == k) (is_told k j ps)
   where
-    last : (t u : Bool) → (u || (t && false)) ≡ u
+    last : (t u : Bool) → (u || ((t && false) || false)) ≡ u
     last true true = refl
     last true false = refl
     last false true = refl
     last false false = refl
 
--- where it is the first of its request
-pub told-new : (n i j : ℕ) (ps : List (ℕ × ℕ)) → is_told n j ps ≡ false
-    → is_told n j (ps ++ (n, i) ∷ []) ≡ (i == j)
-told-new n i j ps none = told-pushed n j (n, i) ps ∙ ap (λ t. t || (n == n && i == j)) none
-    ∙ ap (λ t. t && i == j) (is-same n)
+-- where they are the first of their request
+pub told-new : (n : ℕ) (is : List ℕ) (j : ℕ) (ps : List (ℕ × ℕ)) → is_told n j ps ≡ false
+    → is_told n j (ps ++ map (λ i. (n, i)) is) ≡ list_any (λ i. i == j) is
+told-new n is j ps none = told-append n j ps (map (λ i. (n, i)) is)
+    ∙ ap (λ t. t || is_told n j (map (λ i. (n, i)) is)) none ∙ told-of n n j is
+    ∙ ap (λ t. t && list_any (λ i. i == j) is) (is-same n)
 
 -- the next request isn't made yet
 pub next-none : (b : Bus) → request_of (next_number b) b ≡ None
@@ -339,24 +316,25 @@ pulled-more ps b after keeps pulled n i e = let r = pulled n i e in record {
   notice = r.notice;
 }
 
--- marks stay where one is remembered of a request that isn't among them
-pub marks-recalled : (n i j : ℕ) (ps : List (ℕ × ℕ)) (b : Bus) (xs : List Item) → AreAsked b xs
-    → request_of n b ≡ None → marks_of j (ps ++ (n, i) ∷ []) b xs ≡ marks_of j ps b xs
-marks-recalled n i j ps b [] asked none = refl
-marks-recalled n i j ps b (x ∷ xs) asked none =
-    ap (λ ms. ms ++ marks_of j (ps ++ (n, i) ∷ []) b xs) (one x (λ k e. asked k (inl (sym e))))
-    ∙ ap (λ ms. item_mark j ps b x ++ ms)
-    (marks-recalled n i j ps b xs (λ k e. asked k (inr e)) none)
+-- marks stay where pulls are remembered of a request that isn't among them
+pub marks-recalled : (n : ℕ) (is : List ℕ) (j : ℕ) (ps : List (ℕ × ℕ)) (b : Bus) (xs : List Item)
+    → AreAsked b xs → request_of n b ≡ None
+    → marks_of j (ps ++ map (λ i. (n, i)) is) b xs ≡ marks_of j ps b xs
+marks-recalled n is j ps b [] asked none = refl
+marks-recalled n is j ps b (x ∷ xs) asked none =
+    ap (λ ms. ms ++ marks_of j (ps ++ map (λ i. (n, i)) is) b xs)
+    (one x (λ k e. asked k (inl (sym e)))) ∙ ap (λ ms. item_mark j ps b x ++ ms)
+    (marks-recalled n is j ps b xs (λ k e. asked k (inr e)) none)
   where
     one : (y : Item) → ((k : ℕ) → y ≡ Ask k → (r : Request) × (request_of k b ≡ Some r))
-        → item_mark j (ps ++ (n, i) ∷ []) b y ≡ item_mark j ps b y
+        → item_mark j (ps ++ map (λ i. (n, i)) is) b y ≡ item_mark j ps b y
     one (Ask k) made = by (n == k) refl
       where
         by : (t : Bool) → (n == k) ≡ t
-            → item_mark j (ps ++ (n, i) ∷ []) b (Ask k) ≡ item_mark j ps b (Ask k)
+            → item_mark j (ps ++ map (λ i. (n, i)) is) b (Ask k) ≡ item_mark j ps b (Ask k)
         by true e = absurd (none-some (sym none
             ∙ ap (λ m. request_of m b) (same-number n k e) ∙ (made k refl).1))
-        by false e = ap (λ t. request_mark j t (request_of k b)) (told-other n i k j ps e)
+        by false e = ap (λ t. request_mark j t (request_of k b)) (told-others n is k j ps e)
     one (Reply m result payload) made = refl
     one (Raw bytes) made = refl
     one (RawReply label kind result payload) made = refl

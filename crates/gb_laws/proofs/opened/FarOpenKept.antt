@@ -9,11 +9,12 @@ use Rattle.gb_machine.specs.Bus.{Bus, Connection, Request, connection_of, reques
 use Rattle.gb_machine.specs.Host.{Host, is_link, with_interface, with_link}
 use Rattle.gb_machine.specs.SequenceSteps.{Target, is_enumeration, kind_of, payload_of}
 use Rattle.gb_machine.specs.{Failures.unsent, HostActs.with_awaited, HostServing.host_serves}
-use Rattle.gb_machine.specs.{HostTurns.host_turn, LineActions.spent}
+use Rattle.gb_machine.specs.{LineActions.spent}
 use Rattle.gb_machine.specs.{Members.IsIn, Runs.Moment, Sending.Draft}
 use Rattle.gb_invariants.proofs.{Awaiting.none-some, Awaiting.same-some, BusChanges.KeepsRequests}
 use Rattle.gb_invariants.proofs.{Lists.in-at_first, Lists.in-pushed, Numbers.found-by_number}
 use Rattle.gb_invariants.proofs.{Numbers.found-number, Selves.ap-no-far, Wires.AreOn}
+use Rattle.gb_invariants.proofs.HostChanges.{turn_of}
 use Rattle.gb_laws.proofs.points.ChangeBuses.{bus_change, by-bus, keeps-requests}
 use Rattle.gb_laws.proofs.opened.FarOpen.{FarFits, IsFarWell, far-after}
 use Rattle.gb_laws.proofs.links.LinkActs.{awaited-host}
@@ -62,8 +63,8 @@ pub kinds-kept : (m : Moment) (a : Point) (x : Change m a) → LinkedAt a → Pa
     → WaitsKinds a.state.bus a.state.host
     → WaitsKinds (changed m a x).state.bus (changed m a x).state.host
 kinds-kept m a (turns e free untouched none cause) links pairs h =
-    kinds-on a.state.bus a.state.bus a.state.host (host_turn e a.state.host).host (λ n r made. made)
-    (come-from a.state.host (host_turn e a.state.host).host (from-turn e a.state.host)) h
+    kinds-on a.state.bus a.state.bus a.state.host (turn_of e a.state.host).host (λ n r made. made)
+    (come-from a.state.host (turn_of e a.state.host).host (from-turn e a.state.host)) h
 kinds-kept m a (acts_opened w q rest free is) links pairs h = λ l live v e. ⊎_elim
     (λ o. let k = h l o v e in record {
       request = k.request;

@@ -10,7 +10,7 @@ use Rattle.gb_base.specs.declared.steps.SequenceStep.TheVariants as steps
 use Rattle.gb_formats.specs.SvcRecords.{read_svc_ask}
 use Rattle.gb_machine.proofs.Lists.{nth-within}
 use Rattle.gb_machine.specs.Bus.{Ask, Connection, Request, request_of}
-use Rattle.gb_machine.specs.{Host.Host, LawsBus.is_awaited, Members.IsIn, Runs.Moment}
+use Rattle.gb_machine.specs.{Host.interfaces_of, LawsBus.is_awaited, Members.IsIn, Runs.Moment}
 use Rattle.gb_machine.specs.{SequenceSteps.kind_of, SvcQueues.svc_items, Turns.Act}
 use Rattle.gb_machine.specs.{Wiring.is_at, Wiring.is_wired_to}
 use Rattle.gb_invariants.proofs.{Awaiting.not-both, Awaiting.same-some, Lists.each-in}
@@ -27,8 +27,7 @@ use Rattle.gb_laws.proofs.points.Points.{turns, unwires, wires}
 use Rattle.gb_laws.proofs.{creations.Creating.destroys_one, creations.Creating.is_destroy}
 use Rattle.gb_laws.proofs.{opened.FarOpenKept.HasStep}
 use Rattle.gb_laws.proofs.{opened.FarOpenKept.WaitsKinds, links.LinkLists.one-link}
-use Rattle.gb_laws.proofs.{marks.MarkMoments.link-known}
-use Rattle.gb_laws.proofs.{marks.MarkNotices.removal-handled}
+use Rattle.gb_laws.proofs.{links.Departing.departing-handled}
 use Rattle.gb_laws.proofs.{removals.QuietRuns.leaves, removals.QuietRuns.waits-before}
 use Rattle.gb_laws.proofs.{creations.StaleBase.StaleBase}
 use Rattle.gb_laws.proofs.{svc.StillWaiting.IsFront, svc.SvcOrder.none-earlier}
@@ -71,18 +70,18 @@ module _ (m : Moment) (start : GoneTo m.told m.before) where
   -- ---- what acts are to give up
 
   -- of an interface whose removal is handled nothing was wired
-  unwired-removed : (i : ℕ) → IsNoticed m (host_event.Removed i) → (l : Link)
-      → IsIn l m.before.host.links → l.intf ≡ i
-      → IsWiredIn l.connection m.before.bus.connections → ⊥
-  unwired-removed i n l known at w = by (start.wiring.stale.since.links.1.known w.connection w.live)
+  unwired-removed : (p i : ℕ) → IsNoticed m (host_event.Removed p)
+      → IsIn i (interfaces_of p m.before.host) → (l : Link) → IsIn l m.before.host.links
+      → l.intf ≡ i → IsWiredIn l.connection m.before.bus.connections → ⊥
+  unwired-removed p i n has l known at w =
+      by (start.wiring.stale.since.links.1.known w.connection w.live)
     where
       none : is_wired_to i w.connection ≡ false
       none =
           let links = start.wiring.stale.since.links in
           each-in (λ c. is_wired_to i c ≡ false) m.before.bus.connections w.connection
           ((leaves m.told m.before start.wiring.stale.quiet).unwired i (waits-before i m
-          (removal-handled i i m links.0 links.1 links.2
-          (link-known i m.before l links.1 known at) n))) w.live
+          (departing-handled i p m links.0 links.1 links.2 n has))) w.live
 
       by : IsKnown w.connection m.before.host.links [] → ⊥
       by (supervisory one) =
@@ -173,7 +172,7 @@ module _ (m : Moment) (start : GoneTo m.told m.before) where
           → (IsWiredIn k m.before.bus.connections → ⊥) ⊎ IsDestroying m
       why k (removed j l is known at number) =
           let c = subst (λ y. IsCaused m y a.state.host) is cause in
-          inl (λ w. unwired-removed j c.1 l (subst (λ (g : Host). IsIn l g.links) c.0 known) at
+          inl (λ w. unwired-removed c.primary j c.noticed c.known l (c.links l known) at
           (subst (λ n. IsWiredIn n m.before.bus.connections) (sym number) w))
       why k (closed j result payload l is known waiting number) =
           subst (λ n. (IsWiredIn n m.before.bus.connections → ⊥) ⊎ IsDestroying m) number

@@ -3,19 +3,19 @@
 use Rattle.std.proofs.Common.{List, None, Some, ℕ, inl, inr, map, refl, [], ⊎_elim, ◌++◌, ◌∷◌, ◌≡◌}
 use Rattle.std.proofs.Common.{◌⊎◌}
 use Rattle.gb_base.specs.declared.entry.{ConnState.ConnState, Entry.Entry}
-use Rattle.gb_base.specs.declared.host_event.HostEvent.{HostEvent}
 use Rattle.gb_base.specs.declared.peers.{Link.Link}
 use Rattle.gb_base.specs.declared.steps.{Purpose.Purpose}
 use Rattle.gb_base.specs.declared.entry.ConnState.TheVariants as state
 use Rattle.gb_base.specs.declared.entry.Entry.TheVariants as entry
 use Rattle.gb_machine.specs.Failures.{link_told, unsent}
-use Rattle.gb_machine.specs.HostTurns.{host_turn, links_left, links_of}
+use Rattle.gb_machine.specs.HostTurns.{links_left, links_of}
 use Rattle.gb_machine.specs.Turns.{Act}
 use Rattle.gb_machine.specs.{Host.Host, Members.Each}
 use Rattle.gb_invariants.proofs.HostChanges.{Finds, HostChange, HostEnd, IsOfNone, MayTurnTo}
-use Rattle.gb_invariants.proofs.HostChanges.{Occasion, TurnLaw, acts_by, at_event, at_unsent}
+use Rattle.gb_invariants.proofs.HostChanges.{Occasion, TurnLaw, acts_by, at_notice, at_unsent}
 use Rattle.gb_invariants.proofs.HostChanges.{end_of}
 use Rattle.gb_invariants.proofs.OverTurns.{over-turn, over-unsent}
+use Rattle.gb_invariants.proofs.HostChanges.{Notice, turn_of}
 
 -- what an entry tells to be closing is so
 abbrev pub TellsOf : (ℕ → Type 0) → Entry → Type 0
@@ -94,8 +94,8 @@ led_law So o = record {
   over = λ x h t finds why led. change-led So x h t.acts finds led;
 }
 
-pub led-turn : (So : ℕ → Type 0) (e : HostEvent) (h : Host) → AreLed So (host_turn e h).acts
-led-turn So e h = over-turn e h (led_law So (at_event e h))
+pub led-turn : (So : ℕ → Type 0) (e : Notice) (h : Host) → AreLed So (turn_of e h).acts
+led-turn So e h = over-turn e h (led_law So (at_notice e h))
 
 -- where a request can't be made
 tells-led : (So : ℕ → Type 0) (es : List Entry) → AreLed So (map Act.Tell es)

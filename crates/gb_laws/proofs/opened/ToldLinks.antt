@@ -7,7 +7,7 @@ use Rattle.gb_base.specs.declared.entry.Entry.{Entry}
 use Rattle.gb_base.specs.declared.entry.Entry.TheVariants as entry
 use Rattle.gb_base.specs.declared.peers.Link.{Link}
 use Rattle.gb_machine.specs.Bus.{Bus, Connection, next_number}
-use Rattle.gb_machine.specs.{Failures.unsent, Host.Host, HostTurns.host_turn, Members.Each}
+use Rattle.gb_machine.specs.{Failures.unsent, Host.Host, Members.Each}
 use Rattle.gb_machine.specs.{Members.IsIn, Requests.open_on, Runs.Moment, Sending.sent, Turns.Act}
 use Rattle.gb_machine.specs.{Wires.disconnected_told, Wiring.shut_down, Wiring.unwired}
 use Rattle.gb_invariants.proofs.BusChanges.{BusChange, Was, bus_after, came, sends, stayed, was}
@@ -15,6 +15,7 @@ use Rattle.gb_invariants.proofs.BusChanges.{went}
 use Rattle.gb_invariants.proofs.Lists.{each-append, each-in, each-weaker, in-pushed}
 use Rattle.gb_invariants.proofs.Wires.{made-number}
 use Rattle.gb_invariants.specs.Facts.{IsMade}
+use Rattle.gb_invariants.proofs.HostChanges.{turn_of}
 use Rattle.gb_laws.proofs.links.LinkTells.{ActsTell, TellsLink, turns-tell, unsent-told}
 use Rattle.gb_laws.proofs.links.Links.{ArePending, IsKnown, leaving, linked, supervisory}
 use Rattle.gb_laws.proofs.points.PointParts.{Basis, Point, is_silent, sent_told}
@@ -185,7 +186,7 @@ told-links_kept m a (turns e free untouched none cause) basis links h = record {
   told = (told-by m a (turns e free untouched none cause) [] tt h).told;
   acts = links-match a.state.bus a.state.host (link-matches a.state.bus a.state.host []
       (subst (Linked a.state.bus a.state.host) none links) (λ k i. i))
-      (host_turn e a.state.host).acts (turns-tell e a.state.host);
+      (turn_of e a.state.host).acts (turns-tell e a.state.host);
 }
 told-links_kept m a (acts_told e rest is quiet) basis links h =
     let pending = subst (ActsMatch a.state.bus) is h.acts in record {

@@ -35,7 +35,7 @@ pub record IsOverdue (m : Moment) (k : ℕ) (s : State) : Type 0 where
 shut-idle : (m : Moment) (k millis : ℕ) (b : Bus) → m.event ≡ event.Tick millis → IsShutFor m k b
     → open_on k side.Ap b ≡ []
 shut-idle m k millis b tick (disconnected i c l is at own) = absurd cc
-shut-idle m k millis b tick (removed i l n live own) = let other = n.event in absurd cc
+shut-idle m k millis b tick (removed p i l n known live own) = let other = n.event in absurd cc
 shut-idle m k millis b tick (idle none) = none
 
 -- nothing ends then

@@ -20,12 +20,15 @@ use Rattle.gb_machine.specs.Bus.{Bus, Connection, Item, Place, Request, next_num
 use Rattle.gb_machine.specs.Bus.{place_of, queue, request_of}
 use Rattle.gb_machine.specs.Incoming.{Incoming, reply_item, request_in}
 use Rattle.gb_machine.specs.Turns.{Act, Asking}
-use Rattle.gb_machine.specs.{Asking.asked, Delivery.popped, Delivery.replied, Host.Host}
-use Rattle.gb_machine.specs.{Host.link_at, HostServing.host_serves, HostTurns.links_of}
-use Rattle.gb_machine.specs.{LawsBus.NameRequests, Lists.first, Members.Each, Members.IsIn}
+use Rattle.gb_machine.specs.Host.{Host, interface_of, interfaces_of, link_at}
+use Rattle.gb_machine.specs.{Asking.asked, Delivery.popped, Delivery.replied}
+use Rattle.gb_machine.specs.{HostServing.host_serves, HostTurns.links_of}
+use Rattle.gb_machine.specs.{LawsBus.NameRequests, Lists.first, Lists.span, Members.Each}
+use Rattle.gb_machine.specs.{Members.IsIn}
 use Rattle.gb_machine.specs.{Names.named, Refusals.refusal, Runs.Moment, Sending.Draft}
 use Rattle.gb_machine.specs.{Serving.Answer, State.Held, State.State}
 use Rattle.gb_machine.specs.{Requests.open_on}
+use Rattle.gb_invariants.proofs.HostChanges.{Notice, at_event, at_insertion, at_removal}
 use Rattle.gb_invariants.proofs.Selves.{SameSelf}
 use Rattle.gb_invariants.specs.Facts.{BusFits, Loose}
 use Rattle.gb_laws.proofs.links.Draining.{FirstDrains}
@@ -196,22 +199,41 @@ pub record IsServing (m : Moment) (s : State) (q : Incoming) : Type 0 where
   pub bus : IsAfterReply place.connection.number side.Far q
       (popped place.connection.number side.Far m.before.bus) s.bus
 
+-- At this moment the insertion of a module that has this interface is handled, and the interface is
+-- absent where it was before.
+pub record IsArriving (m : Moment) (p i : ℕ) (h : Host) : Type 0 where
+  pub count : ℕ
+  pub noticed : IsNoticed m (host_event.Inserted p count)
+  pub within : IsIn i (span p count)
+  pub absent : interface_of i m.before.host ≡ None → interface_of i h ≡ None
+
+-- At this moment the removal of a module that has this interface is handled, and no connection is
+-- known that wasn't before.
+pub record IsDeparting (m : Moment) (i : ℕ) (h : Host) : Type 0 where
+  pub primary : ℕ
+  pub noticed : IsNoticed m (host_event.Removed primary)
+  pub known : IsIn i (interfaces_of primary m.before.host)
+  pub links : (l : Link) → IsIn l h.links → IsIn l m.before.host.links
+
 -- Why the application processor takes notice of something at a moment, its host being as it was
--- before, but where a request ended or nothing is open on a connection.
-abbrev pub IsCaused : Moment → HostEvent → Host → Type 0
-IsCaused m (host_event.Inserted i) h = (h ≡ m.before.host) × IsNoticed m (host_event.Inserted i)
-IsCaused m (host_event.Removed i) h = (h ≡ m.before.host) × IsNoticed m (host_event.Removed i)
-IsCaused m (host_event.Connect i c) h =
+-- before, but for a module's interfaces one after another, and where a request ended or nothing is
+-- open on a connection.
+abbrev pub IsCaused : Moment → Notice → Host → Type 0
+IsCaused m (at_insertion p i) h = IsArriving m p i h
+IsCaused m (at_removal i) h = IsDeparting m i h
+IsCaused m (at_event (host_event.Inserted p count)) h = ⊥
+IsCaused m (at_event (host_event.Removed p)) h = ⊥
+IsCaused m (at_event (host_event.Connect i c)) h =
     (h ≡ m.before.host) × (m.event ≡ event.Connect i c)
     × (refusal m.before (event.Connect i c) ≡ None) × (c ≤ 4095)
-IsCaused m (host_event.Disconnect i c) h =
+IsCaused m (at_event (host_event.Disconnect i c)) h =
     (h ≡ m.before.host) × (m.event ≡ event.Disconnect i c)
     × (refusal m.before (event.Disconnect i c) ≡ None)
-IsCaused m (host_event.Drain i c) h =
+IsCaused m (at_event (host_event.Drain i c)) h =
     (h ≡ m.before.host) × (m.event ≡ event.Drain i c)
     × (refusal m.before (event.Drain i c) ≡ None)
-IsCaused m (host_event.Idle k) h = FirstDrains h.links
-IsCaused m (host_event.Ended n how) h = Unit {0}
+IsCaused m (at_event (host_event.Idle k)) h = FirstDrains h.links
+IsCaused m (at_event (host_event.Ended n how)) h = Unit {0}
 
 -- a tick, and a request whose deadline came
 pub record IsLate (m : Moment) (s : State) (n : ℕ) : Type 0 where
@@ -239,8 +261,9 @@ IsGivenUpFor m s _ n = ⊥
 pub data IsShutFor (m : Moment) (k : ℕ) (b : Bus) : Type 0 where
   disconnected : (i c : ℕ) (l : Link) → m.event ≡ event.Disconnect i c
       → link_at i c m.before.host ≡ Some l → l.connection ≡ k → IsShutFor m k b
-  removed : (i : ℕ) (l : Link) → IsNoticed m (host_event.Removed i)
-      → IsIn l (links_of i m.before.host) → l.connection ≡ k → IsShutFor m k b
+  removed : (p i : ℕ) (l : Link) → IsNoticed m (host_event.Removed p)
+      → IsIn i (interfaces_of p m.before.host) → IsIn l (links_of i m.before.host)
+      → l.connection ≡ k → IsShutFor m k b
   idle : open_on k side.Ap b ≡ [] → IsShutFor m k b
 
 -- ---- events
@@ -248,7 +271,7 @@ pub data IsShutFor (m : Moment) (k : ℕ) (b : Bus) : Type 0 where
 -- an event at which the supervisory controller asks of its own
 abbrev pub IsOfSvc : Event → Type 0
 IsOfSvc event.Boot = Unit {0}
-IsOfSvc (event.Insert i kind) = Unit {0}
+IsOfSvc (event.Insert i kinds) = Unit {0}
 IsOfSvc (event.InsertRaw i manifest) = Unit {0}
 IsOfSvc (event.Pull i) = Unit {0}
 IsOfSvc _ = ⊥

@@ -1,6 +1,6 @@
 -- The single changes that lead from one point within the step of an event to the next.
-use Rattle.std.specs.Prelude.{Bool, List, None, Option, Some, false, length, map, nat_lt, true, ℕ}
-use Rattle.std.specs.Prelude.{[], is_some, ◌+◌, ◌<◌, ◌∷◌, ◌≡◌, ◌≢◌, ◌⊎◌}
+use Rattle.std.specs.Prelude.{Bool, List, None, Option, Some, false, is_some, length, map, nat_lt}
+use Rattle.std.specs.Prelude.{true, ℕ, [], ◌+◌, ◌<◌, ◌∷◌, ◌≡◌, ◌≢◌, ◌⊎◌}
 use Rattle.gb_base.specs.declared.bridge.BridgeAsk.{BridgeAsk}
 use Rattle.gb_base.specs.declared.bridge.Reading.TheVariants as reading
 use Rattle.gb_base.specs.declared.end.End.{End}
@@ -11,7 +11,6 @@ use Rattle.gb_base.specs.declared.entry.ConnState.TheVariants as state
 use Rattle.gb_base.specs.declared.entry.Entry.TheVariants as entry
 use Rattle.gb_base.specs.declared.event.Event.TheVariants as event
 use Rattle.gb_base.specs.declared.host_event.HostEvent.TheVariants as host_event
-use Rattle.gb_base.specs.declared.host_event.HostEvent.{HostEvent}
 use Rattle.gb_base.specs.declared.name.Name.{Name}
 use Rattle.gb_base.specs.declared.outcome.Outcome.{Outcome}
 use Rattle.gb_base.specs.declared.outcome.Outcome.TheVariants as outcome
@@ -33,11 +32,12 @@ use Rattle.gb_machine.specs.Turns.{Act, Asking, Making}
 use Rattle.gb_machine.specs.Wires.{disconnected_told, with_unwired, with_wired}
 use Rattle.gb_machine.specs.Wiring.{detached, injected, is_wired_to, next_connection, shut_down}
 use Rattle.gb_machine.specs.{Failures.unsent, Holding.held_on, Host.with_link}
-use Rattle.gb_machine.specs.{HostServing.host_serves, HostTurns.host_turn, LawsBus.is_awaited}
+use Rattle.gb_machine.specs.{HostServing.host_serves, LawsBus.is_awaited}
 use Rattle.gb_machine.specs.{LineActions.spent, LineActions.with_fewer, Lists.first, Lists.nth}
 use Rattle.gb_machine.specs.{Members.EachTwo, Members.IsIn, Plugging.with_told, Runs.Moment}
 use Rattle.gb_machine.specs.{Serving.Answer}
-use Rattle.gb_laws.proofs.marks.Marks.{plugged_at}
+use Rattle.gb_invariants.proofs.HostChanges.{Notice, at_event, at_insertion, turn_of}
+use Rattle.gb_laws.proofs.marks.Wholes.{AreElsewhere, AreWhole, plugged_at}
 pub use Rattle.gb_laws.proofs.points.PointParts.{AreQuiet, Basis, Hand, IsAfterReply, IsBridge}
 pub use Rattle.gb_laws.proofs.points.PointParts.{IsCancelled, IsCaused, IsGivenUpFor, IsLate}
 pub use Rattle.gb_laws.proofs.points.PointParts.{IsNoticed}
@@ -108,13 +108,15 @@ awaited_by m a c d (by_host q rest is draft none) = Some (q, next_number a.state
 awaited_by m a c d (by_far who on) = a.asked
 
 -- Where the application processor takes notice of something, no request was made at the moment
--- yet, unless it is the end of one that wasn't answered. A sequence goes on with an answer only
--- where its request isn't awaited any more, and a connection is idle where nothing is open on it.
-abbrev pub IsOver : Moment → HostEvent → Bus → Type 0
-IsOver m (host_event.Ended n how) b =
+-- yet, unless it is an insertion, or the end of one that wasn't answered. A sequence goes on with
+-- an answer only where its request isn't awaited any more, and a connection is idle where nothing
+-- is open on it.
+abbrev pub IsOver : Moment → Notice → Bus → Type 0
+IsOver m (at_event (host_event.Ended n how)) b =
     (result : ℕ) (payload : List ℕ) → how ≡ outcome.Answered result payload
     → (is_awaited n b ≡ false) × (b.requests ≡ m.before.bus.requests)
-IsOver m (host_event.Idle k) b = open_on k side.Ap b ≡ []
+IsOver m (at_event (host_event.Idle k)) b = open_on k side.Ap b ≡ []
+IsOver m (at_insertion p i) b = Unit {0}
 IsOver m _ b = b.requests ≡ m.before.bus.requests
 
 -- What a line asks is no request of a sequence and goes to the supervisory controller, or it is on
@@ -130,8 +132,8 @@ pub record SamePlugs (s : State) (booted : Bool) (ports : List Port) (modules : 
   pub started : booted ≡ s.booted
   pub plugged : (i : ℕ) → plugged_at i modules ≡ plugged_at i s.modules
   pub powered : (i : ℕ) → is_powered i ports ≡ true → is_powered i s.ports ≡ true
-  pub differ : EachTwo (λ (p q : Plugged). p.intf ≢ q.intf) s.modules
-      → EachTwo (λ (p q : Plugged). p.intf ≢ q.intf) modules
+  pub differ : EachTwo AreElsewhere s.modules → EachTwo AreElsewhere modules
+  pub whole : AreWhole s.modules → AreWhole modules
 
 -- Where power levels come from: they stay, or are those of a step of the supervisory controller's
 -- table, or an interface without a wired connection loses its route.
@@ -219,8 +221,8 @@ pub data Change (m : Moment) (a : Point) : Type 0 where
   injects : (i c : ℕ) (p : Place) (bytes : List ℕ) → a.hand ≡ None
       → module_place i c a.state ≡ Some p → Change m a
   -- the application processor takes notice of something
-  turns : (e : HostEvent) → a.hand ≡ None → (a.wires ≡ Untouched) × IsOver m e a.state.bus
-      → a.pending ≡ [] → IsCaused m e a.state.host → Change m a
+  turns : (x : Notice) → a.hand ≡ None → (a.wires ≡ Untouched) × IsOver m x a.state.bus
+      → a.pending ≡ [] → IsCaused m x a.state.host → Change m a
   -- it does an act
   acts_told : (e : Entry) (rest : List Act) → a.pending ≡ Act.Tell e ∷ rest → is_quiet e ≡ true
       → Change m a
@@ -289,9 +291,9 @@ changed m a (unwires k free unwired live) =
 changed m a (injects i c p bytes free named) =
     on_bus (injected p.connection.number bytes a.state.bus)
     (entry.Raw (end.Module i c) (end.Ap p.connection.ap) (length bytes) bytes ∷ []) a
-changed m a (turns e free untouched none cause) =
-    record (on (record a.state { host = (host_turn e a.state.host).host }) [] a)
-    { pending = (host_turn e a.state.host).acts }
+changed m a (turns x free untouched none cause) =
+    record (on (record a.state { host = (turn_of x a.state.host).host }) [] a)
+    { pending = (turn_of x a.state.host).acts }
 changed m a (acts_told e rest is quiet) = record (on a.state (e ∷ []) a) { pending = rest }
 changed m a (acts_shut k rest free is cause) =
     record (on_bus (shut_down k a.state.bus) (map disconnected_told (open_on k side.Ap a.state.bus))
@@ -312,7 +314,7 @@ changed m a (serves k kind payload none) =
 changed m a (spends i c what none) =
     on (record a.state { host = with_link i c (spent what) a.state.host }) [] a
 changed m a (passes millis) = on (record a.state { now = a.state.now + millis }) [] a
-changed m a (recalls n i of made) = on (with_told n i a.state) [] a
+changed m a (recalls n i of made) = on (with_told n (i ∷ []) a.state) [] a
 changed m a (others booted marks ports modules same) =
     on (record a.state { booted = booted; holds = marks; ports = ports; modules = modules }) [] a
 

@@ -62,7 +62,7 @@ clean-as n i ps qs (x ∷ xs) same h =
     (λ r. h.0 (sym (removed-as i ps qs xs same) ∙ r), clean-as n i ps qs xs same h.1)
 
 pub view-recalled : (i : ℕ) (a : Point) {b : Point} (n j : ℕ) → level_of j a.state.ports ≡ 0
-    → b.state ≡ with_told n j a.state → b.hand ≡ a.hand → SameView i a b
+    → b.state ≡ with_told n (j ∷ []) a.state → b.hand ≡ a.hand → SameView i a b
 view-recalled i a {b} n j zero state hand = by (j == i) refl
   where
     level : level_of i b.state.ports ≡ level_of i a.state.ports

@@ -2,13 +2,13 @@
 -- does: its turns, what its sequences wait for, and where no identifier is left.
 use Rattle.std.proofs.Common.{List, None, Some, ap, inl, inr, refl, subst, sym, true, ℕ, ⊎_elim, []}
 use Rattle.std.proofs.Common.{◌∙◌, ◌≡◌}
-use Rattle.gb_base.specs.declared.host_event.HostEvent.{HostEvent}
 use Rattle.gb_base.specs.declared.steps.{Purpose.Purpose, SequenceStep.SequenceStep}
 use Rattle.gb_machine.specs.Turns.{Act, Asking}
-use Rattle.gb_machine.specs.{Failures.unsent, Host.Host, HostActs.with_awaited, HostTurns.host_turn}
+use Rattle.gb_machine.specs.{Failures.unsent, Host.Host, HostActs.with_awaited}
 use Rattle.gb_machine.specs.{LawsBus.is_awaited, Members.IsIn, Ports.level_of, Runs.Moment}
 use Rattle.gb_machine.specs.{State.State}
 use Rattle.gb_invariants.proofs.{Awaiting.none-some, Awaiting.not-both, HostChanges.IsAnswered}
+use Rattle.gb_invariants.proofs.HostChanges.{Notice, turn_of}
 use Rattle.gb_laws.proofs.enumerations.Asked.{asks-calm, turn-waits, waits-unsent}
 use Rattle.gb_laws.proofs.enumerations.AskedWaits.{AsksIn, asks-more, is_power_step, no-asks}
 use Rattle.gb_laws.proofs.points.Points.{IsAsking, IsOver, asking, opening}
@@ -24,7 +24,7 @@ use Rattle.gb_laws.proofs.{svc.SvcThere.There}
 -- ---- turns
 
 -- a step of the supervisory controller that was answered leaves nothing of the enumeration there
-answered-calm : (m : Moment) (i : ℕ) (e : HostEvent) (a : Point) → Basis a → LinkedAt a
+answered-calm : (m : Moment) (i : ℕ) (e : Notice) (a : Point) → Basis a → LinkedAt a
     → There a.state.bus → IsOver m e a.state.bus → IsQuiet i a → (p : Purpose)
     → IsAnswered e a.state.host p → p.intf ≡ i → is_power_step p.step ≡ true → IsCalm i a
 answered-calm m i e a basis links there over h p r at s =
@@ -36,12 +36,12 @@ answered-calm m i e a basis links there over h p r at s =
     )
 
 -- where the application processor takes notice of something
-pub quiet-turned : (m : Moment) (i : ℕ) (e : HostEvent) (a : Point) {b : Point} → Basis a
+pub quiet-turned : (m : Moment) (i : ℕ) (e : Notice) (a : Point) {b : Point} → Basis a
     → LinkedAt a → There a.state.bus → IsOver m e a.state.bus
     → b.state.bus ≡ a.state.bus → b.state.ports ≡ a.state.ports
     → b.state.past.pulled ≡ a.state.past.pulled → b.hand ≡ a.hand
-    → b.asked ≡ a.asked → b.state.host ≡ (host_turn e a.state.host).host
-    → b.pending ≡ (host_turn e a.state.host).acts → IsQuiet i a → IsQuiet i b
+    → b.asked ≡ a.asked → b.state.host ≡ (turn_of e a.state.host).host
+    → b.pending ≡ (turn_of e a.state.host).acts → IsQuiet i a → IsQuiet i b
 quiet-turned m i e a {b} basis links there over bus ports pulled hand asked host pending h =
     let v = view-rest basis bus (ap (level_of i) ports) pulled (λ x e. sym hand ∙ e) in record {
       low = low-still i a b v h.low;

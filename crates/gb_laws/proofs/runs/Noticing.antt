@@ -4,14 +4,12 @@ use Rattle.std.proofs.Common.{None, [], refl, ℕ, ◌≡◌}
 use Rattle.gb_base.specs.declared.event.Event.TheVariants as event
 use Rattle.gb_base.specs.declared.end.Side.{Side}
 use Rattle.gb_base.specs.declared.host_event.HostEvent.TheVariants as host_event
-use Rattle.gb_base.specs.declared.host_event.HostEvent.{HostEvent}
 use Rattle.gb_base.specs.declared.outcome.Outcome.{Outcome}
 use Rattle.gb_machine.proofs.Opened.{machine_opened}
 use Rattle.gb_machine.specs.Bus.{Bus}
 use Rattle.gb_machine.specs.Delivery.{ended, popped}
 use Rattle.gb_machine.specs.Host.{Host}
 use Rattle.gb_machine.specs.HostActs.{notices}
-use Rattle.gb_machine.specs.HostTurns.{host_turn}
 use Rattle.gb_machine.specs.Reached.{OfARun}
 use Rattle.gb_machine.specs.Refusals.{refusal}
 use Rattle.gb_machine.specs.Requests.{gave_up}
@@ -19,6 +17,8 @@ use Rattle.gb_machine.specs.Runs.{Moment}
 use Rattle.gb_machine.specs.State.{State}
 use Rattle.gb_invariants.proofs.Awaiting.{none-some}
 use Rattle.gb_invariants.proofs.BusChanges.{BusChange}
+use Rattle.gb_invariants.proofs.HostChanges.{Notice, at_event, turn_of}
+use Rattle.gb_invariants.proofs.ModuleTurns.{takes_notice}
 use Rattle.gb_invariants.proofs.Wires.{alive-after}
 use Rattle.gb_laws.proofs.links.ActsFit.{ever-fit, fit-other}
 use Rattle.gb_laws.proofs.links.LinkChanges.{linked-ended, linked-gave_up, linked-popped}
@@ -45,34 +45,39 @@ KnowsAt s = Knows s.bus s.host
 -- ---- acts, done
 
 -- It is known again once the acts of a turn are done, where no connection is idle.
-noticed-known : (m : Moment) (e : HostEvent) (s : State) → InsertsAbsent m
-    → ((k : ℕ) → e ≡ host_event.Idle k → ⊥) → IsCaused m e s.host → TurnsTo s.bus s.host e
-    → AreAlive s.bus.connections s.host → KnowsAt (notices e s).state
+noticed-known : (m : Moment) (x : Notice) (s : State) → InsertsAbsent m
+    → ((k : ℕ) → x ≡ at_event (host_event.Idle k) → ⊥) → IsCaused m x s.host
+    → TurnsTo s.bus s.host x
+    → AreAlive s.bus.connections s.host → KnowsAt (takes_notice x s).state
 unfolding machine_opened
-noticed-known m e s absent other cause links alive =
-    let t = host_turn e s.host in
+noticed-known m x s absent other cause links alive =
+    let t = turn_of x s.host in
     let r = goes-acts m (record {
       holds = λ a. LinkedAt a × AreAlive a.state.bus.connections a.state.host;
-      kept = λ a x is h. (linked-kept m absent x h.0, alive-kept m a x h.0 h.1);
+      kept = λ a y is h. (linked-kept m absent y h.0, alive-kept m a y h.0 h.1);
     }) t.acts (record s { host = t.host })
-    (ever-fit m s.bus t.acts (fit-other m e s.host other cause)) []
-    (links, alive-from s.bus.connections s.host t.host (from-turn e s.host) alive) in
+    (ever-fit m s.bus t.acts (fit-other m x s.host other cause)) []
+    (links, alive-from s.bus.connections s.host t.host (from-turn x s.host) alive) in
     record { links = r.0; alive = r.1 }
 
 -- where a request ended
 pub knows-ended : (n : ℕ) (how : Outcome) (s : State) → KnowsAt s
     → KnowsAt (notices (host_event.Ended n how) s).state
+unfolding machine_opened
 knows-ended n how s f =
-    noticed-known (record { told = []; event = event.Show; before = s }) (host_event.Ended n how) s
-    (λ i noticed. let at = noticed.event in absurd cc) (λ k e. absurd cc) tt
+    noticed-known (record { told = []; event = event.Show; before = s })
+    (at_event (host_event.Ended n how)) s
+    (λ p count i noticed. let at = noticed.event in absurd cc) (λ k e. absurd cc) tt
     (turned-ended n how f.links) f.alive
 
 -- and where a drain isn't refused
 pub knows-drains : (i c : ℕ) (s : State) → refusal s (event.Drain i c) ≡ None → KnowsAt s
     → KnowsAt (notices (host_event.Drain i c) s).state
+unfolding machine_opened
 knows-drains i c s allowed f =
     noticed-known (record { told = []; event = event.Drain i c; before = s })
-    (host_event.Drain i c) s (λ j noticed. let at = noticed.event in absurd cc) (λ k e. absurd cc)
+    (at_event (host_event.Drain i c)) s
+    (λ p count j noticed. let at = noticed.event in absurd cc) (λ k e. absurd cc)
     (refl, refl, allowed) (turned-drains s i c allowed f.links) f.alive
 
 -- ---- where it is known

@@ -23,9 +23,9 @@ IsQuietly (Some e) = is_silent e ≡ true
 -- How the application processor serves a request.
 pub data ServedAs (h : Host) (r : HostServed) : Type 0 where
   plainly : IsQuietly r.told → r.notices ≡ None → ServedAs h r
-  inserting : (i : ℕ) → r.host ≡ h → r.told ≡ None → r.notices ≡ Some (host_event.Inserted i)
-      → ServedAs h r
-  removing : (i : ℕ) → r.host ≡ h → r.told ≡ None → r.notices ≡ Some (host_event.Removed i)
+  inserting : (p count : ℕ) → r.host ≡ h → r.told ≡ None
+      → r.notices ≡ Some (host_event.Inserted p count) → ServedAs h r
+  removing : (p : ℕ) → r.host ≡ h → r.told ≡ None → r.notices ≡ Some (host_event.Removed p)
       → ServedAs h r
 
 -- one of two
@@ -39,8 +39,8 @@ refused h result = plainly tt refl
 
 served-svc : (h : Host) (r : Result SvcAsk PayloadFault) → ServedAs h (notified_by r h)
 served-svc h (Err fault) = refused h _
-served-svc h (Ok (SvcAsk.ModuleInserted i count flags)) = inserting i refl refl refl
-served-svc h (Ok (SvcAsk.ModuleRemoved i)) = removing i refl refl refl
+served-svc h (Ok (SvcAsk.ModuleInserted p count flags)) = inserting p count refl refl refl
+served-svc h (Ok (SvcAsk.ModuleRemoved p)) = removing p refl refl refl
 served-svc h _ = plainly tt refl
 
 served-gpio : (h : Host) (l : Link) (r : Result GpioAsk PayloadFault)

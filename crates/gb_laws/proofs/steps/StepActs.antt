@@ -5,17 +5,18 @@ use Rattle.std.specs.Prelude.{option_and_then}
 use Rattle.gb_base.specs.declared.end.Side.TheVariants as side
 use Rattle.gb_base.specs.declared.entry.ConnState.TheVariants as state
 use Rattle.gb_base.specs.declared.entry.Entry.TheVariants as entry
-use Rattle.gb_base.specs.declared.host_event.HostEvent.{HostEvent}
 use Rattle.gb_machine.proofs.Opened.{machine_opened}
 use Rattle.gb_machine.specs.Actions.{Action, change, each, given, on_host, tell, ◌▸◌}
 use Rattle.gb_machine.specs.Bus.{Connection, connection_of, next_number}
 use Rattle.gb_machine.specs.HostActs.{acts, asked_with, fails, host_asks, host_draft, host_opens}
-use Rattle.gb_machine.specs.HostActs.{notices, opened_with, with_awaited, with_made}
+use Rattle.gb_machine.specs.HostActs.{opened_with, with_awaited, with_made}
 use Rattle.gb_machine.specs.Turns.{Act, Asking, Making}
-use Rattle.gb_machine.specs.{Asking.asked, Asking.asks_with, Failures.unsent, HostTurns.host_turn}
+use Rattle.gb_machine.specs.{Asking.asked, Asking.asks_with, Failures.unsent}
 use Rattle.gb_machine.specs.{Labels.cyclic_label, Labels.next_label, Runs.Moment}
 use Rattle.gb_machine.specs.{Sending.sent, State.State, Wiring.next_connection}
 use Rattle.gb_invariants.proofs.Awaiting.{none-some}
+use Rattle.gb_invariants.proofs.HostChanges.{Notice, turn_of}
+use Rattle.gb_invariants.proofs.ModuleTurns.{takes_notice}
 use Rattle.gb_laws.proofs.links.ActsFit.{AreFit, IsFit, ever-fit, fit-turn, quiet-unsent}
 use Rattle.gb_laws.proofs.points.Points.{IsAsking, IsOver, acts_asked, acts_failed, acts_left}
 use Rattle.gb_laws.proofs.points.Points.{acts_opened}
@@ -99,11 +100,11 @@ module _ (m : Moment) (law : ActLaw m) where
       (goes-act x xs s fit.0)
       (goes-acts xs (acts x s).state (ever-fit m (acts x s).state.bus xs fit.1))
 
-  -- the application processor takes notice of something
-  pub goes-notices : (e : HostEvent) (s : State) → IsOver m e s.bus → IsCaused m e s.host
-      → Acts [] [] (notices e) s
+  -- the application processor takes notice of something in one turn
+  pub goes-notice : (x : Notice) (s : State) → IsOver m x s.bus → IsCaused m x s.host
+      → Acts [] [] (takes_notice x) s
   unfolding machine_opened
-  goes-notices e s over cause =
-      goes-▸ m law (on_host (λ h. (host_turn e s.host).host)) (each (host_turn e s.host).acts acts)
-      (λ told at. law.kept _ (turns e refl (refl, over) refl cause) tt at)
-      (goes-acts (host_turn e s.host).acts _ (fit-turn m s.bus e s.host over cause))
+  goes-notice x s over cause =
+      goes-▸ m law (on_host (λ h. (turn_of x s.host).host)) (each (turn_of x s.host).acts acts)
+      (λ told at. law.kept _ (turns x refl (refl, over) refl cause) tt at)
+      (goes-acts (turn_of x s.host).acts _ (fit-turn m s.bus x s.host over cause))

@@ -13,11 +13,12 @@ use Rattle.gb_machine.specs.Bus.{Request, request_of}
 use Rattle.gb_machine.specs.HostActs.{drains, follows, idles, idles_behind, notices}
 use Rattle.gb_machine.specs.Requests.{is_idle, same_side}
 use Rattle.gb_machine.specs.{Host.link_at, Lists.first, Refusals.refusal, Runs.Moment, State.State}
+use Rattle.gb_invariants.proofs.HostChanges.{at_event}
 use Rattle.gb_laws.proofs.steps.StepActions.{Stays, goes-nothing, goes-when, goes-▸}
 use Rattle.gb_laws.proofs.{links.DrainingKept.FirstDrainsAt, points.PointParts.Point}
 use Rattle.gb_laws.proofs.{points.PointParts.Untouched}
 use Rattle.gb_laws.proofs.{points.Points.IsOver, steps.StepActLaws.ActLaw}
-use Rattle.gb_laws.proofs.{steps.StepActs.goes-notices}
+use Rattle.gb_laws.proofs.{steps.StepActs.goes-notice}
 
 none-first : (ns : List ℕ) → is_none (first ns) ≡ true → ns ≡ []
 none-first [] e = refl
@@ -33,7 +34,8 @@ module _ (m : Moment) (law : ActLaw m) (drain : (a : Point) → law.holds a → 
   unfolding machine_opened
   goes-idles k s told at =
       goes-when m law None [] Untouched (is_idle k s.bus) (notices (host_event.Idle k)) s
-      (λ idle. goes-notices m law (host_event.Idle k) s (none-first _ idle) (drain _ at)) told at
+      (λ idle. goes-notice m law (at_event (host_event.Idle k)) s (none-first _ idle) (drain _ at))
+      told at
 
   goes-idles_behind : (o : Option Request) (s : State) → Idly (given o idles_behind) s
   unfolding machine_opened
@@ -43,12 +45,12 @@ module _ (m : Moment) (law : ActLaw m) (drain : (a : Point) → law.holds a → 
       (λ e. goes-idles r.connection s)
 
   -- a request ended
-  pub goes-follows : (n : ℕ) (how : Outcome) (s : State) → IsOver m (host_event.Ended n how) s.bus
-      → Idly (follows n how) s
+  pub goes-follows : (n : ℕ) (how : Outcome) (s : State)
+      → IsOver m (at_event (host_event.Ended n how)) s.bus → Idly (follows n how) s
   unfolding machine_opened
   goes-follows n how s over =
       goes-▸ m law (notices (host_event.Ended n how)) (given (request_of n s.bus) idles_behind)
-      (goes-notices m law (host_event.Ended n how) s over tt)
+      (goes-notice m law (at_event (host_event.Ended n how)) s over tt)
       (goes-idles_behind (request_of n s.bus) (notices (host_event.Ended n how) s).state)
 
   -- a connection drains
@@ -58,7 +60,7 @@ module _ (m : Moment) (law : ActLaw m) (drain : (a : Point) → law.holds a → 
   goes-drains i c is free =
       goes-▸ m law (notices (host_event.Drain i c))
       (by_state (λ t. given (link_at i c t.host) (λ l. idles l.connection)))
-      (goes-notices m law (host_event.Drain i c) m.before refl (refl, is, free))
+      (goes-notice m law (at_event (host_event.Drain i c)) m.before refl (refl, is, free))
       (by (link_at i c after.host) after)
     where
       after : State

@@ -1,12 +1,14 @@
 -- A law of points goes over the start of the supervisory controller, and modules that come and go.
-use Rattle.std.proofs.Common.{Bool, List, None, inl, inr, refl, true, ℕ, [], ◌∷◌}
+use Rattle.std.proofs.Common.{Bool, List, None, inl, inr, length, refl, true, ℕ, [], ◌∷◌}
+use Rattle.std.specs.List.{filter}
 use Rattle.std.specs.Prelude.{◌==◌}
 use Rattle.gb_formats.specs.SvcRecords.{SvcAsk}
 use Rattle.gb_formats.specs.Module.{Module}
 use Rattle.gb_machine.proofs.Opened.{machine_opened}
 use Rattle.gb_machine.specs.Actions.{Action, change, each, nothing, when, ◌▸◌}
-use Rattle.gb_machine.specs.Plugging.{boots, plugs, tells_inserted, with_plugged}
+use Rattle.gb_machine.specs.Plugging.{boots, parts_of, plugs, tells_inserted, with_plugged}
 use Rattle.gb_machine.specs.{OwnAsking.svc_asks, OwnAsking.svc_own}
+use Rattle.gb_machine.specs.Modules.{is_primary}
 use Rattle.gb_machine.specs.{Runs.Moment, State.Plugged, State.State}
 use Rattle.gb_laws.proofs.points.LowTypes.{svc-low}
 use Rattle.gb_laws.proofs.points.Points.{IsOfSvc, Law, by_svc, others}
@@ -40,35 +42,47 @@ module _ (m : Moment) (law : Law m) where
   -- ---- booting, plugging and pulling
 
   pub rests-inserted_all : IsOfSvc m.event → (ps : List Plugged) (s : State)
-      → Rests (each ps (λ p. tells_inserted p.intf)) s
+      → Rests (each ps (λ p. tells_inserted p.primary p.count)) s
   unfolding machine_opened
   rests-inserted_all of [] s = rests-nothing s
   rests-inserted_all of (p ∷ ps) s =
-      rests-▸ (tells_inserted p.intf) (each ps (λ p. tells_inserted p.intf)) s
-      (rests-svc of (SvcAsk.ModuleInserted p.intf 1 0) s)
-      (rests-inserted_all of ps (tells_inserted p.intf s).state)
+      rests-▸ (tells_inserted p.primary p.count)
+      (each ps (λ p. tells_inserted p.primary p.count)) s
+      (rests-svc of (SvcAsk.ModuleInserted p.primary p.count 0) s)
+      (rests-inserted_all of ps (tells_inserted p.primary p.count s).state)
 
   pub rests-boots : IsOfSvc m.event → (s : State) → Rests boots s
   unfolding machine_opened
   rests-boots of s =
       rests-▸ (change (λ t. record t { booted = true }) ▸ svc_asks (SvcAsk.ProtocolVersion 0 1)
-      ▸ svc_asks (SvcAsk.Hello 1 1)) (each s.modules (λ p. tells_inserted p.intf)) s
+      ▸ svc_asks (SvcAsk.Hello 1 1))
+      (each (filter is_primary s.modules) (λ p. tells_inserted p.primary p.count)) s
       (rests-▸ (change (λ t. record t { booted = true }) ▸ svc_asks (SvcAsk.ProtocolVersion 0 1))
       (svc_asks (SvcAsk.Hello 1 1)) s
       (rests-▸ (change (λ t. record t { booted = true })) (svc_asks (SvcAsk.ProtocolVersion 0 1)) s
       (λ told at. law.kept _ (others true s.holds s.ports s.modules
       (inr (of, λ i. inl refl, λ k i. inl i))) at)
       (rests-svc of (SvcAsk.ProtocolVersion 0 1) _))
-      (rests-svc of (SvcAsk.Hello 1 1) _)) (rests-inserted_all of s.modules _)
+      (rests-svc of (SvcAsk.Hello 1 1) _)) (rests-inserted_all of (filter is_primary s.modules) _)
 
-  pub rests-plugs : IsOfSvc m.event → (i : ℕ) (x : Module) (s : State) → Rests (plugs i x) s
+  -- parts of a module are plugged
+  rests-plugged_all : IsOfSvc m.event → (ps : List Plugged) (s : State)
+      → Rests (each ps (λ p. change (with_plugged p))) s
   unfolding machine_opened
-  rests-plugs of i x s =
-      rests-▸ (change (with_plugged i x)) (when s.booted (tells_inserted i)) s
-      (λ told at. law.kept _ (others s.booted s.holds (with_plugged i x s).ports
-      (with_plugged i x s).modules (inr (
+  rests-plugged_all of [] s = rests-nothing s
+  rests-plugged_all of (p ∷ ps) s =
+      rests-▸ (change (with_plugged p)) (each ps (λ p. change (with_plugged p))) s
+      (λ told at. law.kept _ (others s.booted s.holds (with_plugged p s).ports
+      (with_plugged p s).modules (inr (
         of,
-        λ j. powered-off i j s.ports (i == j),
+        λ j. powered-off p.intf j s.ports (p.intf == j),
         λ k n. inl n,
-      ))) at) (rests-when s.booted (tells_inserted i) (with_plugged i x s)
-      (rests-svc of (SvcAsk.ModuleInserted i 1 0) (with_plugged i x s)))
+      ))) at) (rests-plugged_all of ps (with_plugged p s))
+
+  pub rests-plugs : IsOfSvc m.event → (i : ℕ) (ms : List Module) (s : State) → Rests (plugs i ms) s
+  unfolding machine_opened
+  rests-plugs of i ms s =
+      rests-▸ (each (parts_of i ms) (λ p. change (with_plugged p)))
+      (when s.booted (tells_inserted i (length ms))) s (rests-plugged_all of (parts_of i ms) s)
+      (rests-when s.booted (tells_inserted i (length ms)) _
+      (rests-svc of (SvcAsk.ModuleInserted i (length ms) 0) _))

@@ -22,8 +22,8 @@ use Rattle.gb_invariants.proofs.Awaiting.{none-some, same-some}
 use Rattle.gb_laws.proofs.steps.Delivered.{IsTaken, noticed, served-at, serving-of}
 use Rattle.gb_laws.proofs.points.Places.{ComesFrom, LivesOn, comes-after, lives-after}
 use Rattle.gb_laws.proofs.points.LowTypes.{AreLow, module-low}
-use Rattle.gb_laws.proofs.points.PointParts.{IsCaused, IsNoticed, IsServed, Untouched}
-use Rattle.gb_laws.proofs.points.Points.{IsAfterReply, IsOver, IsServing, Law, as_before}
+use Rattle.gb_laws.proofs.points.PointParts.{IsNoticed, IsServed, Untouched}
+use Rattle.gb_laws.proofs.points.Points.{IsAfterReply, IsServing, Law, as_before}
 use Rattle.gb_laws.proofs.points.Points.{loses_route, others, replied_to, served, serves, unreplied}
 use Rattle.gb_laws.proofs.svc.Powering.{IsReady, step-powered, step-ready}
 use Rattle.gb_laws.proofs.steps.Served.{IsQuietly, ServedAs, inserting, plainly, removing}
@@ -33,7 +33,8 @@ use Rattle.gb_laws.proofs.steps.StepActions.{At, Goes, IsToModule, goes-far_asks
 use Rattle.gb_laws.proofs.steps.StepActions.{goes-tell, goes-▸}
 use Rattle.gb_laws.proofs.steps.StepSvcServes.{Ends, ends-decided, ends-going, ends-nothing}
 use Rattle.gb_laws.proofs.{svc.StayPlugged.module-plugs}
-use Rattle.gb_laws.proofs.{steps.StepActLaws.acting, steps.StepActs.goes-notices}
+use Rattle.gb_laws.proofs.{steps.StepActLaws.acting, steps.StepActs.Acts}
+use Rattle.gb_laws.proofs.{steps.StepModules.goes-inserted, steps.StepModules.goes-removed}
 
 module _ (m : Moment) (law : Law m) where
   -- ---- modules
@@ -100,7 +101,8 @@ module _ (m : Moment) (law : Law m) where
   -- what it is then, what it tells and what it takes notice of
   goes-behind : (host : Host) (o : Option Entry) (n : Option HostEvent) (u : State)
       → Goes m (acting m law) None [] Untouched None [] Untouched (on_host (λ old. host)) u
-      → IsQuietly o → ((e : HostEvent) → n ≡ Some e → IsCaused m e host × IsOver m e u.bus)
+      → IsQuietly o → ((e : HostEvent) → n ≡ Some e
+      → Acts m (acting m law) [] [] (notices e) (record u { host = host }))
       → Goes m (acting m law) None [] Untouched None [] Untouched
       (on_host (λ old. host) ▸ given o tell ▸ given n notices) u
   unfolding machine_opened
@@ -116,17 +118,16 @@ module _ (m : Moment) (law : Law m) where
       says (Some e) s q = goes-tell m (acting m law) None [] Untouched e s q
 
       takes_notice : (o : Option Entry) (n : Option HostEvent)
-          → ((e : HostEvent) → n ≡ Some e → IsCaused m e host × IsOver m e u.bus)
+          → ((e : HostEvent) → n ≡ Some e
+          → Acts m (acting m law) [] [] (notices e) (record u { host = host }))
           → Goes m (acting m law) None [] Untouched None [] Untouched (given n notices)
           ((on_host (λ old. host) ▸ given o tell) u).state
       takes_notice None None c =
           goes-nothing m (acting m law) None [] Untouched (record u { host = host })
-      takes_notice None (Some e) c =
-          goes-notices m (acting m law) e (record u { host = host }) (c e refl).1 (c e refl).0
+      takes_notice None (Some e) c = c e refl
       takes_notice (Some x) None c =
           goes-nothing m (acting m law) None [] Untouched (record u { host = host })
-      takes_notice (Some x) (Some e) c =
-          goes-notices m (acting m law) e (record u { host = host }) (c e refl).1 (c e refl).0
+      takes_notice (Some x) (Some e) c = c e refl
 
   ends-served : (k kind : ℕ) (payload : List ℕ) (u : State) → IsServed m k kind payload
       → u.host ≡ m.before.host → u.bus.requests ≡ m.before.bus.requests
@@ -136,10 +137,7 @@ module _ (m : Moment) (law : Law m) where
   ends-served k kind payload u at_ap host made notice =
       ends-going m law (host_behind r)
       (goes-behind r.host r.told r.notices u first (quiet (served_as k kind payload m.before.host))
-      (λ e n. (
-        cause (served_as k kind payload m.before.host) e n (notice e n),
-        over (served_as k kind payload m.before.host) e n,
-      )))
+      (λ e n. noticing (served_as k kind payload m.before.host) e n (notice e n)))
     where
       r : HostServed
       r = host_serves k kind payload m.before.host
@@ -154,29 +152,26 @@ module _ (m : Moment) (law : Law m) where
       quiet : ServedAs m.before.host (host_serves k kind payload m.before.host)
           → IsQuietly (host_serves k kind payload m.before.host).told
       quiet (plainly q n) = q
-      quiet (inserting i h q n) = subst IsQuietly (sym q) tt
+      quiet (inserting i count h q n) = subst IsQuietly (sym q) tt
       quiet (removing i h q n) = subst IsQuietly (sym q) tt
 
-      cause : ServedAs m.before.host (host_serves k kind payload m.before.host) → (e : HostEvent)
+      noticing : ServedAs m.before.host (host_serves k kind payload m.before.host) → (e : HostEvent)
           → (host_serves k kind payload m.before.host).notices ≡ Some e → IsNoticed m e
-          → IsCaused m e (host_serves k kind payload m.before.host).host
-      cause (plainly q n) e is said = absurd (none-some (sym n ∙ is))
-      cause (inserting i h q n) e is said =
-          let same = same-some (host_event.Inserted i) e (sym n ∙ is) in
-          subst (λ x. IsCaused m x (host_serves k kind payload m.before.host).host) same
-          (h, subst (IsNoticed m) (sym same) said)
-      cause (removing i h q n) e is said =
-          let same = same-some (host_event.Removed i) e (sym n ∙ is) in
-          subst (λ x. IsCaused m x (host_serves k kind payload m.before.host).host) same
-          (h, subst (IsNoticed m) (sym same) said)
-
-      over : ServedAs m.before.host (host_serves k kind payload m.before.host) → (e : HostEvent)
-          → (host_serves k kind payload m.before.host).notices ≡ Some e → IsOver m e u.bus
-      over (plainly q n) e is = absurd (none-some (sym n ∙ is))
-      over (inserting i h q n) e is =
-          subst (λ x. IsOver m x u.bus) (same-some (host_event.Inserted i) e (sym n ∙ is)) made
-      over (removing i h q n) e is =
-          subst (λ x. IsOver m x u.bus) (same-some (host_event.Removed i) e (sym n ∙ is)) made
+          → Acts m (acting m law) [] [] (notices e)
+          (record u { host = (host_serves k kind payload m.before.host).host })
+      noticing (plainly q n) e is said = absurd (none-some (sym n ∙ is))
+      noticing (inserting p count h q n) e is said =
+          let same = same-some (host_event.Inserted p count) e (sym n ∙ is) in
+          subst (λ x. Acts m (acting m law) [] [] (notices x)
+          (record u { host = (host_serves k kind payload m.before.host).host })) same
+          (goes-inserted m (acting m law) p count (subst (IsNoticed m) (sym same) said)
+          (record u { host = (host_serves k kind payload m.before.host).host }) h)
+      noticing (removing p h q n) e is said =
+          let same = same-some (host_event.Removed p) e (sym n ∙ is) in
+          subst (λ x. Acts m (acting m law) [] [] (notices x)
+          (record u { host = (host_serves k kind payload m.before.host).host })) same
+          (goes-removed m (acting m law) p (subst (IsNoticed m) (sym same) said)
+          (record u { host = (host_serves k kind payload m.before.host).host }) h made)
 
   same-after : {k : ℕ} {at : Side} {q : Incoming} {b after : Bus} → IsAfterReply k at q b after
       → after.requests ≡ b.requests

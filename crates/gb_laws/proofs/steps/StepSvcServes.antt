@@ -48,6 +48,7 @@ module _ (m : Moment) (law : Law m) where
         plugged = λ i. refl;
         powered = powered;
         differ = λ h. h;
+        whole = λ h. h;
       },
       from,
       record { hand = refl; pending = refl; asked = refl },

@@ -1,6 +1,6 @@
 -- A law of points goes over the step of each event.
-use Rattle.std.proofs.Common.{None, Option, Some, append_assoc, arith, refl, subst, sym, [], ◌++◌}
-use Rattle.std.proofs.Common.{◌∷◌, ◌≡◌}
+use Rattle.std.proofs.Common.{None, Option, Some, append_assoc, arith, map, refl, subst, sym, []}
+use Rattle.std.proofs.Common.{◌++◌, ◌∷◌, ◌≡◌}
 use Rattle.gb_base.specs.declared.entry.Entry.TheVariants as entry
 use Rattle.gb_base.specs.declared.event.Event.{Event}
 use Rattle.gb_base.specs.declared.event.Event.TheVariants as event
@@ -11,12 +11,13 @@ use Rattle.gb_formats.specs.{Module.module_raw}
 use Rattle.gb_machine.proofs.Opened.{machine_opened}
 use Rattle.gb_machine.specs.Runs.{IsMoment, Moment, after, told_at}
 use Rattle.gb_machine.specs.{Events.decided, Events.does, Refusals.refusal}
+use Rattle.gb_invariants.proofs.HostChanges.{at_event}
 use Rattle.gb_laws.proofs.points.PointParts.{Untouched, Wires, resting}
 use Rattle.gb_laws.proofs.points.Points.{IsBridge, IsOfSvc, Law, frees, tells}
 use Rattle.gb_laws.proofs.steps.StepEvents.{rests-bridges, rests-cancels, rests-copies, rests-holds}
 use Rattle.gb_laws.proofs.steps.StepEvents.{rests-injects, rests-sends, rests-shows, rests-stirs}
 use Rattle.gb_laws.proofs.{steps.StepActLaws.acting}
-use Rattle.gb_laws.proofs.{steps.StepActions.At, steps.StepActs.goes-notices}
+use Rattle.gb_laws.proofs.{steps.StepActions.At, steps.StepActs.goes-notice}
 use Rattle.gb_laws.proofs.{steps.StepDelivers.ends-answers}
 use Rattle.gb_laws.proofs.{steps.StepDelivers.ends-delivers, steps.StepPlugs.rests-boots}
 use Rattle.gb_laws.proofs.{steps.StepPlugs.rests-plugs}
@@ -32,18 +33,20 @@ module _ (m : Moment) (law : Law m) where
   unfolding machine_opened
   ends-does event.Boot is one free = ends-going m law (does event.Boot)
       (rests-boots m law (subst IsOfSvc (sym is) tt) m.before)
-  ends-does (event.Insert i kind) is one free = ends-going m law (does (event.Insert i kind))
-      (rests-plugs m law (subst IsOfSvc (sym is) tt) i (module_of_kind kind) m.before)
+  ends-does (event.Insert i kinds) is one free = ends-going m law (does (event.Insert i kinds))
+      (rests-plugs m law (subst IsOfSvc (sym is) tt) i (map module_of_kind kinds) m.before)
   ends-does (event.InsertRaw i manifest) is one free = ends-going m law
       (does (event.InsertRaw i manifest))
-      (rests-plugs m law (subst IsOfSvc (sym is) tt) i (module_raw manifest) m.before)
+      (rests-plugs m law (subst IsOfSvc (sym is) tt) i (module_raw manifest ∷ []) m.before)
   ends-does (event.Pull i) is one free = ends-pulls m law (subst IsOfSvc (sym is) tt) i
   ends-does (event.Connect i c) is one free =
       ends-going m law (does (event.Connect i c))
-      (goes-notices m (acting m law) (host_event.Connect i c) m.before refl (refl, is, free, one.1))
+      (goes-notice m (acting m law) (at_event (host_event.Connect i c)) m.before refl
+      (refl, is, free, one.1))
   ends-does (event.Disconnect i c) is one free =
       ends-going m law (does (event.Disconnect i c))
-      (goes-notices m (acting m law) (host_event.Disconnect i c) m.before refl (refl, is, free))
+      (goes-notice m (acting m law) (at_event (host_event.Disconnect i c)) m.before refl
+      (refl, is, free))
   ends-does (event.Drain i c) is one free =
       ends-going m law (does (event.Drain i c))
       (goes-drains m (acting m law) (λ a h. (law.basis a h).drains) i c is free)

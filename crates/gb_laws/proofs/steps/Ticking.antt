@@ -1,7 +1,7 @@
 -- A law of points goes over ticks and pulls.
 use Rattle.std.proofs.Common.{Bool, List, None, Option, Some, ap, append-nil, append_assoc, arith}
-use Rattle.std.proofs.Common.{cond, false, inl, inr, map, refl, subst, sym, true, ℕ, [], ◌++◌, ◌+◌}
-use Rattle.std.proofs.Common.{◌<◌, ◌∙◌, ◌∷◌, ◌≡◌, ◌≢◌, ◌⊎◌}
+use Rattle.std.proofs.Common.{cond, false, inl, inr, map, refl, subst, sym, true, ℕ, ⊎_elim, []}
+use Rattle.std.proofs.Common.{◌++◌, ◌+◌, ◌<◌, ◌∙◌, ◌∷◌, ◌≡◌, ◌≢◌, ◌⊎◌}
 use Rattle.std.proofs.lemmas.Bool.Decides.{nat_tests}
 use Rattle.std.specs.List.{filter}
 use Rattle.std.specs.Prelude.{is_some, ◌==◌}
@@ -12,23 +12,25 @@ use Rattle.gb_base.specs.declared.entry.Entry.{Entry}
 use Rattle.gb_base.specs.declared.event.Event.TheVariants as event
 use Rattle.gb_base.specs.declared.outcome.Outcome.TheVariants as outcome
 use Rattle.gb_formats.specs.SvcRecords.{SvcAsk, svc_ask_kind, svc_ask_payload}
-use Rattle.gb_machine.proofs.Opened.{machine_opened}
-use Rattle.gb_machine.specs.Actions.{Action, change, each, given, when, ◌▸◌}
-use Rattle.gb_machine.specs.Asking.{asks, asks_with}
 use Rattle.gb_formats.specs.Grammar.{default_timeout}
+use Rattle.gb_machine.proofs.Opened.{machine_opened}
+use Rattle.gb_machine.specs.Actions.{Action, change, each, given, nothing, when, ◌▸◌}
+use Rattle.gb_machine.specs.Asking.{asks, asks_with}
 use Rattle.gb_machine.specs.Sending.{Draft, draft, is_wired, label_for}
 use Rattle.gb_machine.specs.Bus.{Bus, Connection, connection_of, has_number, next_number}
 use Rattle.gb_machine.specs.Bus.{request_of}
 use Rattle.gb_machine.specs.GivingUp.{gives_up, later_by, ticks, times_out}
 use Rattle.gb_machine.specs.Members.{Each, EachTwo, IsIn}
-use Rattle.gb_machine.specs.Plugging.{pulls, recalled, tells_removed, wired_numbers, with_pulled}
-use Rattle.gb_machine.specs.Plugging.{with_told}
+use Rattle.gb_machine.specs.Plugging.{pulls, pulls_module, pulls_one, recalled, tells_removed}
+use Rattle.gb_machine.specs.Plugging.{wired_numbers, with_pulled, with_told}
 use Rattle.gb_machine.specs.Ports.{is_port, level_in, level_of, unpowered}
 use Rattle.gb_machine.specs.Wiring.{is_at, is_wired_to, unwired}
 use Rattle.gb_machine.specs.{OwnAsking.svc_asks, OwnAsking.svc_own}
 use Rattle.gb_machine.specs.{Requests.is_due, Requests.open_on, Runs.Moment, State.Port}
 use Rattle.gb_machine.specs.{State.State}
 use Rattle.gb_machine.specs.Wires as wiring
+use Rattle.gb_machine.specs.State.{Plugged}
+use Rattle.gb_machine.specs.Modules.{interfaces_of, part_at}
 use Rattle.gb_invariants.proofs.Lists.{at_first-stays, two-filter}
 use Rattle.gb_invariants.proofs.Outcomes.{Rise, both-true, open_requests-rise, same-number}
 use Rattle.gb_invariants.proofs.Found.{find-left, none-of}
@@ -70,6 +72,41 @@ unpowered-off i j ports false e =
   where
     other : (n : ℕ) → (n == j) ≡ true → (n == i) ≡ false
     other n h = grind (arith, nat_tests, e, h)
+
+-- what is plugged and power levels stay where connections are unwired
+pub unwired-plugs : (ns : List ℕ) (s : State)
+    → ((each ns wiring.unwires s).state.modules ≡ s.modules)
+    × ((each ns wiring.unwires s).state.ports ≡ s.ports)
+unfolding machine_opened
+unwired-plugs [] s = (refl, refl)
+unwired-plugs (n ∷ ns) s = unwired-plugs ns (wiring.with_unwired n s)
+
+-- the power of an interface that is pulled is off, and stays so while others are
+one-off : (i : ℕ) (s : State) → level_of i (pulls_one i s).state.ports ≡ 0
+unfolding machine_opened
+one-off i s = pulled-off i (each (wired_numbers i s.bus) wiring.unwires s).state.ports
+
+off-stays : (j i : ℕ) (s : State) → level_of j s.ports ≡ 0
+    → level_of j (pulls_one i s).state.ports ≡ 0
+unfolding machine_opened
+off-stays j i s off = ⊎_elim (λ e. e ∙ ap (level_of j) (unwired-plugs (wired_numbers i s.bus) s).1
+    ∙ off) (λ e. e)
+    (unpowered-off i j (each (wired_numbers i s.bus) wiring.unwires s).state.ports (j == i) refl)
+
+all-off : (j : ℕ) (is : List ℕ) (s : State) → level_of j s.ports ≡ 0
+    → level_of j (each is pulls_one s).state.ports ≡ 0
+unfolding machine_opened
+all-off j [] s off = off
+all-off j (i ∷ is) s off = all-off j is (pulls_one i s).state (off-stays j i s off)
+
+each-off : (is : List ℕ) (s : State)
+    → Each (λ j. level_of j (each is pulls_one s).state.ports ≡ 0) is
+unfolding machine_opened
+each-off [] s = tt
+each-off (i ∷ is) s = (
+  all-off i is (pulls_one i s).state (one-off i s),
+  each-off is (pulls_one i s).state,
+)
 
 -- power levels stay where the supervisory controller asks
 asked-ports : (ask : SvcAsk) (s : State) → (svc_asks ask s).state.ports ≡ s.ports
@@ -224,18 +261,17 @@ module _ (m : Moment) (law : Law m) where
       later [] a b = tt
       later (k ∷ ks) a b = (live-unwired n k true s.bus a.0 b.0, later ks a.1 b.1)
 
-  cuts-pulls : IsOfSvc m.event → (i : ℕ) (s : State) → Rise (wired_numbers i s.bus)
-      → Cuts (pulls i) s
+  -- one interface is pulled
+  cuts-one : IsOfSvc m.event → (i : ℕ) (s : State) → Cuts (pulls_one i) s
   unfolding machine_opened
-  cuts-pulls of i s rise =
-      cuts-▸ (each (wired_numbers i s.bus) wiring.unwires ▸ change (with_pulled i))
-      (when s.booted (tells_removed i)) s
-      (cuts-▸ (each (wired_numbers i s.bus) wiring.unwires) (change (with_pulled i)) s
+  cuts-one of i s told u =
+      let rise = wired-rise (filter (is_wired_to i) s.bus.connections)
+      (two-filter IsBefore (is_wired_to i) s.bus.connections
+      (law.basis _ u.holds).bus.numbers.rise) in
+      cuts-▸ (each (wired_numbers i s.bus) wiring.unwires) (change (with_pulled i)) s
       (unwires-each (wired_numbers i s.bus) s rise
       (wired-live i s.bus s.bus.connections (λ c j. j)))
-      (gone (each (wired_numbers i s.bus) wiring.unwires s).state))
-      (tells (with_pulled i (each (wired_numbers i s.bus) wiring.unwires s).state)
-      (pulled-off i (each (wired_numbers i s.bus) wiring.unwires s).state.ports))
+      (gone (each (wired_numbers i s.bus) wiring.unwires s).state) told u
     where
       gone : (w : State) → Cuts (change (with_pulled i)) w
       gone w told u = record {
@@ -249,48 +285,86 @@ module _ (m : Moment) (law : Law m) where
             ))) u.holds;
       }
 
-      -- what was asked is remembered, where it was made
-      recall : (t : State) (n : ℕ) → level_of i t.ports ≡ 0 → Cuts (change (recalled n i)) t
-      recall t n off told u = record {
-        wires = u.wires;
-        is = u.is;
-        holds = by (is_some (request_of n t.bus)) refl;
-      }
-        where
-          by : (b : Bool) → is_some (request_of n t.bus) ≡ b
-              → At m (acting m law) None [] u.wires (told ++ []) (cond b (with_told n i t) t)
-          by true e = law.kept _ (recalls n i of (e, off)) u.holds
-          by false e = subst (λ es. At m (acting m law) None [] u.wires es t)
-              (sym (append-nil told)) u.holds
+  cuts-nothing : (s : State) → Cuts nothing s
+  unfolding machine_opened
+  cuts-nothing s told u = record {
+    wires = u.wires;
+    is = u.is;
+    holds = subst (λ es. At m (acting m law) None [] u.wires es s) (sym (append-nil told)) u.holds;
+  }
 
-      asks-removed : (w : State) → Cuts (svc_asks (SvcAsk.ModuleRemoved i)) w
-      asks-removed w told u = record {
-        wires = u.wires;
-        is = u.is;
-        holds = goes-far_asks m (acting m law) [] u.wires 1 (svc_own (SvcAsk.ModuleRemoved i)) w
-            (λ c e. by_svc of refl) (omega arith) told u.holds;
-      }
+  cuts-each : IsOfSvc m.event → (is : List ℕ) (s : State) → Cuts (each is pulls_one) s
+  unfolding machine_opened
+  cuts-each of [] s = cuts-nothing s
+  cuts-each of (i ∷ is) s = cuts-▸ (pulls_one i) (each is pulls_one) s (cuts-one of i s)
+      (cuts-each of is (pulls_one i s).state)
 
-      tells : (w : State) → level_of i w.ports ≡ 0
-          → Cuts (when s.booted (tells_removed i)) w
-      tells w off = by s.booted
-        where
-          by : (b : Bool) → Cuts (when b (tells_removed i)) w
-          by true told u = cuts-▸ (svc_asks (SvcAsk.ModuleRemoved i))
-              (change (recalled (next_number w.bus) i)) w (asks-removed w)
-              (recall (svc_asks (SvcAsk.ModuleRemoved i) w).state (next_number w.bus)
-              (ap (level_of i) (asked-ports (SvcAsk.ModuleRemoved i) w) ∙ off)) told u
-          by false told u = record {
-            wires = u.wires;
-            is = u.is;
-            holds = subst (λ es. At m (acting m law) None [] u.wires es w)
-                (sym (append-nil told)) u.holds;
-          }
+  -- what was asked is remembered, one interface after another
+  remembers : IsOfSvc m.event → (n : ℕ) (is : List ℕ) (t : State) (w : Wires) (told : List Entry)
+      → is_some (request_of n t.bus) ≡ true → Each (λ i. level_of i t.ports ≡ 0) is
+      → At m (acting m law) None [] w told t
+      → At m (acting m law) None [] w told (with_told n is t)
+  remembers of n [] t w told made off at =
+      subst (λ ps. At m (acting m law) None [] w told (record t {
+        past = record t.past { pulled = ps };
+      })) (sym (append-nil t.past.pulled)) at
+  remembers of n (i ∷ is) t w told made off at =
+      subst (λ ps. At m (acting m law) None [] w told (record t {
+        past = record t.past { pulled = ps };
+      })) (append_assoc t.past.pulled ((n, i) ∷ []) (map (λ j. (n, j)) is))
+      (subst (λ es. At m (acting m law) None [] w es (with_told n is (with_told n (i ∷ []) t)))
+      (append-nil told) (remembers of n is (with_told n (i ∷ []) t) w (told ++ []) made off.1
+      (law.kept _ (recalls n i of (made, off.0)) at)))
+
+  recall : IsOfSvc m.event → (n : ℕ) (is : List ℕ) (t : State)
+      → Each (λ i. level_of i t.ports ≡ 0) is → Cuts (change (recalled n is)) t
+  unfolding machine_opened
+  recall of n is t off told u = record {
+    wires = u.wires;
+    is = u.is;
+    holds = subst (λ es. At m (acting m law) None [] u.wires es (recalled n is t))
+        (sym (append-nil told)) (by (is_some (request_of n t.bus)) refl);
+  }
+    where
+      by : (b : Bool) → is_some (request_of n t.bus) ≡ b
+          → At m (acting m law) None [] u.wires told (cond b (with_told n is t) t)
+      by true e = remembers of n is t u.wires told e off u.holds
+      by false e = u.holds
+
+  asks-removed : IsOfSvc m.event → (i : ℕ) (w : State) → Cuts (svc_asks (SvcAsk.ModuleRemoved i)) w
+  unfolding machine_opened
+  asks-removed of i w told u = record {
+    wires = u.wires;
+    is = u.is;
+    holds = goes-far_asks m (acting m law) [] u.wires 1 (svc_own (SvcAsk.ModuleRemoved i)) w
+        (λ c e. by_svc of refl) (omega arith) told u.holds;
+  }
+
+  cuts-module : IsOfSvc m.event → (p : Plugged) (s : State) → Cuts (pulls_module p) s
+  unfolding machine_opened
+  cuts-module of p s =
+      cuts-▸ (each (interfaces_of p) pulls_one)
+      (when s.booted (tells_removed p.primary (interfaces_of p))) s
+      (cuts-each of (interfaces_of p) s)
+      (tells s.booted (each (interfaces_of p) pulls_one s).state (each-off (interfaces_of p) s))
+    where
+      tells : (b : Bool) (w : State) → Each (λ i. level_of i w.ports ≡ 0) (interfaces_of p)
+          → Cuts (when b (tells_removed p.primary (interfaces_of p))) w
+      tells true w off = cuts-▸ (svc_asks (SvcAsk.ModuleRemoved p.primary))
+          (change (recalled (next_number w.bus) (interfaces_of p))) w
+          (asks-removed of p.primary w)
+          (recall of (next_number w.bus) (interfaces_of p)
+          (svc_asks (SvcAsk.ModuleRemoved p.primary) w).state
+          (subst (λ ps. Each (λ i. level_of i ps ≡ 0) (interfaces_of p))
+          (sym (asked-ports (SvcAsk.ModuleRemoved p.primary) w)) off))
+      tells false w off = cuts-nothing w
 
   pub ends-pulls : IsOfSvc m.event → (i : ℕ) → Ends m law None (pulls i) m.before
+  unfolding machine_opened
   ends-pulls of i told at =
-      let numbers = (law.basis _ at).bus.numbers in
-      let r = cuts-pulls of i m.before (wired-rise (filter (is_wired_to i) m.before.bus.connections)
-      (two-filter IsBefore (is_wired_to i) m.before.bus.connections numbers.rise))
-      told (record { wires = Untouched; is = λ e. absurd cc; holds = at }) in
-      (r.wires, r.holds)
+      let r = by (part_at i m.before.modules) told
+      (record { wires = Untouched; is = λ e. absurd cc; holds = at }) in (r.wires, r.holds)
+    where
+      by : (o : Option Plugged) → Cuts (given o pulls_module) m.before
+      by None = cuts-nothing m.before
+      by (Some p) = cuts-module of p m.before

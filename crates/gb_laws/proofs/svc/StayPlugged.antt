@@ -2,7 +2,7 @@
 use Rattle.std.proofs.Common.{Bool, List, None, Some, ap, cond, false, inl, inr, refl, sym, true, ℕ}
 use Rattle.std.proofs.Common.{[], ◌∙◌, ◌∷◌, ◌≡◌, ◌⊎◌}
 use Rattle.std.specs.List.{find}
-use Rattle.std.specs.Prelude.{option_map, ◌==◌, ◌≢◌}
+use Rattle.std.specs.Prelude.{option_map, ◌==◌}
 use Rattle.gb_base.specs.declared.end.End.TheVariants as end
 use Rattle.gb_base.specs.declared.entry.ConnState.{ConnState}
 use Rattle.gb_base.specs.declared.entry.ConnState.TheVariants as state
@@ -18,8 +18,9 @@ use Rattle.gb_machine.specs.{Arriving.state_takes, Members.EachTwo}
 use Rattle.gb_invariants.proofs.{Lists.two-at_first, Numbers.found-number, Numbers.same-connection}
 use Rattle.gb_invariants.specs.Facts.{IsBefore}
 use Rattle.gb_laws.proofs.{points.Places.module-far, points.Places.place-is}
-use Rattle.gb_laws.proofs.{marks.Marks.plugged_at, points.Points.SamePlugs}
+use Rattle.gb_laws.proofs.{points.Points.SamePlugs}
 use Rattle.gb_laws.proofs.{steps.StepActions.IsToModule}
+use Rattle.gb_laws.proofs.marks.Wholes.{AreElsewhere, plugged_at, whole-changed}
 
 -- ---- what stays plugged
 
@@ -29,6 +30,7 @@ same-plugs s = record {
   plugged = λ i. refl;
   powered = λ i e. e;
   differ = λ h. h;
+  whole = λ h. h;
 }
 
 -- where a module changes
@@ -38,8 +40,10 @@ module-plugs s i x = record {
   started = refl;
   plugged = plugged s.modules;
   powered = λ j e. e;
-  differ = λ h. two-at_first (λ (p q : Plugged). p.intf ≢ q.intf) (is_plugged_at i)
-      (λ p. record p { body = x }) s.modules (λ p q r. r) (λ p q r. r) h;
+  differ = λ h. two-at_first AreElsewhere (is_plugged_at i) (λ p. record p { body = x }) s.modules
+      (λ p q r. r) (λ p q r. r) h;
+  whole = λ h. whole-changed i (λ p. record p { body = x }) s.modules (λ p. refl) (λ p. refl)
+      (λ p. refl) h;
 }
   where
     plugged : (ms : List Plugged) (j : ℕ) → plugged_at j (with_module i x ms) ≡ plugged_at j ms
@@ -47,16 +51,16 @@ module-plugs s i x = record {
     plugged (p ∷ ps) j = by (p.intf == i) (plugged ps j)
       where
         behind : (t : Bool) → plugged_at j (with_module i x ps) ≡ plugged_at j ps
-            → (option_map (λ (q : Plugged). q.intf)
+            → (option_map (λ (q : Plugged). q.primary)
             (cond t (Some p) (find (is_plugged_at j) (with_module i x ps))))
-            ≡ (option_map (λ (q : Plugged). q.intf)
+            ≡ (option_map (λ (q : Plugged). q.primary)
             (cond t (Some p) (find (is_plugged_at j) ps)))
         behind true h = refl
         behind false h = h
 
-        here : (t : Bool) → (option_map (λ (q : Plugged). q.intf)
+        here : (t : Bool) → (option_map (λ (q : Plugged). q.primary)
             (cond t (Some (record p { body = x })) (find (is_plugged_at j) ps)))
-            ≡ (option_map (λ (q : Plugged). q.intf)
+            ≡ (option_map (λ (q : Plugged). q.primary)
             (cond t (Some p) (find (is_plugged_at j) ps)))
         here true = refl
         here false = refl

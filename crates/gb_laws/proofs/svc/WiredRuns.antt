@@ -1,274 +1,30 @@
 -- Where a connection is wired its module is plugged and its interface routed, throughout.
-use Rattle.std.proofs.Common.{Bool, List, None, Option, Some, ap, arith, cond, false, inl, inr, map}
-use Rattle.std.proofs.Common.{refl, subst, sym, true, ℕ, ⊎_elim, [], ◌∙◌, ◌∷◌, ◌≡◌, ◌≢◌, ◌≤◌}
-use Rattle.std.specs.List.{filter, find}
-use Rattle.std.specs.Prelude.{is_some, option_map, ◌&&◌, ◌==◌}
-use Rattle.gb_base.specs.declared.end.End.TheVariants as end
+use Rattle.std.proofs.Common.{List, None, Option, Some, ap, arith, false, map, refl, subst, sym, ℕ}
+use Rattle.std.proofs.Common.{⊎_elim, [], ◌∙◌, ◌∷◌, ◌≡◌}
 use Rattle.gb_base.specs.declared.entry.Entry.{Entry}
 use Rattle.gb_base.specs.declared.event.Event.{Event}
 use Rattle.gb_base.specs.declared.event.Event.TheVariants as event
-use Rattle.gb_base.specs.declared.host_event.HostEvent.{HostEvent}
 use Rattle.gb_base.specs.declared.refusal.Refusal.{Refusal}
 use Rattle.gb_formats.specs.Module.{Module, module_of_kind, module_raw}
-use Rattle.gb_formats.specs.{SvcRecords.SvcAsk, ValidEvents.IsIntf}
-use Rattle.gb_machine.proofs.{Conditions.free as unmet, Opened.machine_opened}
-use Rattle.gb_machine.specs.Modules.{is_plugged, is_plugged_at, plugged, unplugged}
-use Rattle.gb_machine.specs.Plugging.{boots, plugs, pulls, recalled, tells_inserted, tells_removed}
-use Rattle.gb_machine.specs.Plugging.{wired_numbers, with_plugged, with_pulled, with_told}
-use Rattle.gb_machine.specs.Ports.{is_port, is_powered, level_in, level_of, port_of, powered}
-use Rattle.gb_machine.specs.Ports.{unpowered}
+use Rattle.gb_machine.proofs.{Opened.machine_opened}
+use Rattle.gb_machine.specs.Plugging.{plugs}
 use Rattle.gb_machine.specs.Runs.{IsMoment, Moment, after}
-use Rattle.gb_machine.specs.State.{Plugged, Port, State, first_state}
-use Rattle.gb_machine.specs.{Actions.each, Actions.when, Bus.Connection, Bus.has_number}
-use Rattle.gb_machine.specs.{Bus.next_number, Bus.request_of}
-use Rattle.gb_machine.specs.{Events.decided, Events.step, Members.EachTwo, Members.IsIn}
-use Rattle.gb_machine.specs.{OwnAsking.svc_asks, Refusals.refusal, Wires.unwires}
-use Rattle.gb_machine.specs.{Wires.with_unwired, Wiring.is_at, Wiring.is_wired_to}
-use Rattle.gb_invariants.proofs.{Awaiting.not-both, Found.find-left, Found.none-of, Lists.filter-in}
-use Rattle.gb_invariants.proofs.{Lists.two-at_first, Numbers.in-changed, Outcomes.is-same}
-use Rattle.gb_invariants.proofs.{Outcomes.same-number, Selves.svc-no-module}
-use Rattle.gb_invariants.specs.Facts.{IsBefore}
+use Rattle.gb_machine.specs.State.{State, first_state}
+use Rattle.gb_machine.specs.{Bus.Connection}
+use Rattle.gb_machine.specs.{Events.decided, Events.step}
+use Rattle.gb_machine.specs.{Refusals.refusal}
+use Rattle.gb_invariants.proofs.{Awaiting.not-both}
+use Rattle.gb_invariants.proofs.{Selves.svc-no-module}
 use Rattle.gb_laws.proofs.links.LinkRuns.{LinkedTo, linked-over, linked-throughout}
-use Rattle.gb_laws.proofs.marks.MarkPulls.{pulled-other, svc-asked, unwires-svc, wired-others}
-use Rattle.gb_laws.proofs.marks.MarkTells.{AfterAsk, QueueIsAsked, after-ask}
 use Rattle.gb_laws.proofs.points.Points.{IsOfSvc, Law, upon}
 use Rattle.gb_laws.proofs.runs.Runs.{HoldsByMoments, Keeps, throughout}
-use Rattle.gb_laws.proofs.svc.WiredWell.{WiredFit, fit-bus, wired-kept}
+use Rattle.gb_laws.proofs.svc.WiredWell.{WiredFit, wired-kept}
 use Rattle.gb_laws.proofs.{basis.Basics.basis, marks.MarkFrame.asked-items}
 use Rattle.gb_laws.proofs.{marks.MarkMoments.refused-state}
-use Rattle.gb_laws.proofs.{marks.MarkPlugs.plugged-at, marks.MarkPlugs.plugged-other}
 use Rattle.gb_laws.proofs.{points.PointParts.resting}
 use Rattle.gb_laws.proofs.{steps.Steps.over-step}
-
--- ---- the supervisory controller asks
-
-fit-ask : {s t : State} (o : Option HostEvent) → AfterAsk s t o → WiredFit s → WiredFit t
-fit-ask {s} o a h = fit-bus s a.wired a.modules a.ports h
-
-fit-tells : (ps : List Plugged) {s : State} → QueueIsAsked s.bus → WiredFit s
-    → WiredFit (each ps (λ p. tells_inserted p.intf) s).state
-unfolding machine_opened
-fit-tells [] asked h = h
-fit-tells (p ∷ ps) asked h =
-    let a = after-ask (SvcAsk.ModuleInserted p.intf 1 0) asked in
-    fit-tells ps a.asked (fit-ask _ a h)
-
-fit-boots : (s : State) → QueueIsAsked s.bus → WiredFit s → WiredFit (boots s).state
-unfolding machine_opened
-fit-boots s asked h =
-    let s0 = record s { booted = true } in
-    let s1 = (svc_asks (SvcAsk.ProtocolVersion 0 1) s0).state in
-    let s2 = (svc_asks (SvcAsk.Hello 1 1) s1).state in
-    let a1 = after-ask (SvcAsk.ProtocolVersion 0 1) asked in
-    let a2 = after-ask (SvcAsk.Hello 1 1) a1.asked in
-    fit-tells s.modules a2.asked (fit-ask _ a2 (fit-ask _ a1 (record {
-      wired = h.wired;
-      powered = h.powered;
-      range = h.range;
-      bound = h.bound;
-      routed = h.routed;
-    })))
-
--- ---- plugging
-
-fit-plugged : (i : ℕ) (x : Module) (s : State) → IsIntf i → is_plugged i s.modules ≡ false
-    → WiredFit s → WiredFit (with_plugged i x s)
-fit-plugged i x s valid free h = record {
-  wired = λ c live wired j p at. stays j (h.wired c live wired j p at);
-  powered = λ j e. by_power j (i == j) refl e;
-  range = λ j e. by_range j (i == j) refl e;
-  bound = λ j. by_bound j (i == j);
-  routed = λ c live wired j p at. by_route c live wired j p at (i == j) refl;
-}
-  where
-    by_bound : (j : ℕ) (t : Bool)
-        → level_in (cond t (Some (record { intf = i; level = 0; device = None }))
-        (port_of j s.ports)) ≤ 6
-    by_bound j true = omega arith
-    by_bound j false = h.bound j
-
-    by_route : (c : Connection) → IsIn c s.bus.connections → c.wired ≡ true → (j p : ℕ)
-        → c.peer ≡ end.Module j p → (t : Bool) → (i == j) ≡ t
-        → level_in (cond t (Some (record { intf = i; level = 0; device = None }))
-        (port_of j s.ports)) ≡ 6
-    by_route c live wired j p at true e =
-        absurd (not-both (is_plugged i s.modules)
-        (ap (λ n. is_plugged n s.modules) (same-number i j e) ∙ h.wired c live wired j p at) free)
-    by_route c live wired j p at false e = h.routed c live wired j p at
-
-    new : Plugged
-    new = record { intf = i; body = x }
-
-    stays : (j : ℕ) → is_plugged j s.modules ≡ true → is_plugged j (plugged i x s.modules) ≡ true
-    stays j e = by (i == j) refl
-      where
-        by : (t : Bool) → (i == j) ≡ t → is_plugged j (plugged i x s.modules) ≡ true
-        by true f = plugged-at j (record { intf = i; body = x }) s.modules f
-        by false f = plugged-other j (record { intf = i; body = x }) s.modules f ∙ e
-
-    by_power : (j : ℕ) (t : Bool) → (i == j) ≡ t → is_powered j (powered i s.ports) ≡ true
-        → is_plugged j (plugged i x s.modules) ≡ true
-    by_power j true f e = plugged-at j (record { intf = i; body = x }) s.modules f
-    by_power j false f e = plugged-other j (record { intf = i; body = x }) s.modules f
-        ∙ h.powered j (sym (ap (λ t. is_some
-        (cond t (Some (let p : Port = record { intf = i; level = 0; device = None } in p))
-        (find (is_port j) s.ports))) f) ∙ e)
-
-    by_range : (j : ℕ) (t : Bool) → (i == j) ≡ t → is_plugged j (plugged i x s.modules) ≡ true
-        → IsIntf j
-    by_range j true f e = subst IsIntf (same-number i j f) valid
-    by_range j false f e =
-        h.range j (sym (plugged-other j (record { intf = i; body = x }) s.modules f) ∙ e)
-
-fit-plugs : (i : ℕ) (x : Module) {s : State} → IsIntf i → is_plugged i s.modules ≡ false
-    → QueueIsAsked s.bus → WiredFit s → WiredFit (plugs i x s).state
-unfolding machine_opened
-fit-plugs i x {s} valid free asked h = by s.booted
-  where
-    by : (t : Bool) → WiredFit (when t (tells_inserted i) (with_plugged i x s)).state
-    by true = fit-ask _ (after-ask (SvcAsk.ModuleInserted i 1 0) asked)
-        (fit-plugged i x s valid free h)
-    by false = fit-plugged i x s valid free h
-
--- ---- pulling
-
--- what is wired still was wired, and has none of the numbers
-cut-from : (ns : List ℕ) (s : State) (c : Connection) → EachTwo IsBefore s.bus.connections
-    → IsIn c (each ns unwires s).state.bus.connections
-    → c.wired ≡ true → IsIn c s.bus.connections × ((n : ℕ) → IsIn n ns → c.number ≢ n)
-unfolding machine_opened
-cut-from [] s c rise live wired = (live, λ n i. absurd i)
-cut-from (n ∷ ns) s c rise live wired =
-    let f = λ (x : Connection). record x { wired = false; to_ap = []; to_far = [] } in
-    let rec = cut-from ns (with_unwired n s) c
-    (two-at_first IsBefore (has_number n) f s.bus.connections (λ x y r. r) (λ x y r. r) rise) live
-    wired in
-    let here = ⊎_elim (λ o. o) (λ w. absurd
-    (not-both c.wired wired (ap (λ (x : Connection). x.wired) w.3)))
-    (in-changed s.bus.connections n f c rise rec.0) in
-    (here.0, λ k i. ⊎_elim (λ e g. here.1 (g ∙ e)) (λ j. rec.1 k j) i)
-
-number-in : (cs : List Connection) (c : Connection) → IsIn c cs
-    → IsIn c.number (map (λ (x : Connection). x.number) cs)
-number-in [] c i = i
-number-in (x ∷ xs) c (inl e) = inl (ap (λ (y : Connection). y.number) e)
-number-in (x ∷ xs) c (inr j) = inr (number-in xs c j)
-
-fit-pulled : (i : ℕ) (s : State) → EachTwo IsBefore s.bus.connections → WiredFit s
-    → (s1 : State) → s1 ≡ (each (wired_numbers i s.bus) unwires s).state → s1.modules ≡ s.modules
-    → s1.ports ≡ s.ports → WiredFit (with_pulled i s1)
-fit-pulled i s rise h s1 is modules ports = record {
-  wired = λ c live wired j p at.
-      let w = cut-from (wired_numbers i s.bus) s c rise
-      (subst (λ t. IsIn c t.bus.connections) is live) wired in
-      by_wired c j p w.0 wired at w.1 (i == j) refl;
-  powered =
-      λ j e. by_power j (i == j) refl (sym (ap (λ ps. is_powered j (unpowered i ps)) ports) ∙ e);
-  range = λ j e. by_range j (i == j) refl
-      (sym (ap (λ ms. is_plugged j (unplugged i ms)) modules) ∙ e);
-  bound = λ j. subst (λ ps. level_of j (unpowered i ps) ≤ 6) (sym ports) (by_bound j (i == j) refl);
-  routed = λ c live wired j p at.
-      let w = cut-from (wired_numbers i s.bus) s c rise
-      (subst (λ t. IsIn c t.bus.connections) is live) wired in
-      ap (λ ps. level_of j (unpowered i ps)) ports ∙ by_route c j p w.0 wired at w.1 (i == j) refl;
-}
-  where
-    past : (j : ℕ) → (i == j) ≡ false → (p : Port) (t : Bool) → (p.intf == i) ≡ t → p.intf ≡ j
-        → t ≡ false
-    past j e p false k same = refl
-    past j e p true k same = absurd (not-both (i == j)
-        (ap (λ n. n == j) (sym (same-number p.intf i k) ∙ same) ∙ is-same j) e)
-
-    left : (j : ℕ) → (i == j) ≡ false → port_of j (unpowered i s.ports) ≡ port_of j s.ports
-    left j e = find-left (is_port j) (is_port i) s.ports
-        (λ p g. past j e p (p.intf == i) refl (same-number p.intf j g))
-
-    by_bound : (j : ℕ) (t : Bool) → (i == j) ≡ t → level_of j (unpowered i s.ports) ≤ 6
-    by_bound j true e = subst (λ k. level_of k (unpowered i s.ports) ≤ 6) (same-number i j e)
-        (subst (λ o. level_in o ≤ 6) (sym (none-of (is_port i) s.ports)) (omega arith))
-    by_bound j false e = subst (λ o. level_in o ≤ 6) (sym (left j e)) (h.bound j)
-
-    by_route : (c : Connection) (j p : ℕ) → IsIn c s.bus.connections → c.wired ≡ true
-        → c.peer ≡ end.Module j p
-        → ((n : ℕ) → IsIn n (wired_numbers i s.bus) → c.number ≢ n) → (t : Bool) → (i == j) ≡ t
-        → level_of j (unpowered i s.ports) ≡ 6
-    by_route c j p live wired at other true e =
-        let to : is_wired_to i c ≡ true =
-        ap (λ t. t && is_at i c.peer) wired ∙ ap (is_at i) at
-        ∙ ap (λ n. n == i) (sym (same-number i j e)) ∙ is-same i in
-        absurd (other c.number (number-in (filter (is_wired_to i) s.bus.connections) c
-        (filter-in (is_wired_to i) s.bus.connections c live to)) refl)
-    by_route c j p live wired at other false e =
-        ap level_in (left j e) ∙ h.routed c live wired j p at
-
-    by_wired : (c : Connection) (j p : ℕ) → IsIn c s.bus.connections → c.wired ≡ true
-        → c.peer ≡ end.Module j p
-        → ((n : ℕ) → IsIn n (wired_numbers i s.bus) → c.number ≢ n) → (t : Bool) → (i == j) ≡ t
-        → is_plugged j (unplugged i s1.modules) ≡ true
-    by_wired c j p live wired at other true e =
-        let to : is_wired_to i c ≡ true =
-        ap (λ t. t && is_at i c.peer) wired ∙ ap (is_at i) at
-        ∙ ap (λ n. n == i) (sym (same-number i j e)) ∙ is-same i in
-        absurd (other c.number (number-in (filter (is_wired_to i) s.bus.connections) c
-        (filter-in (is_wired_to i) s.bus.connections c live to)) refl)
-    by_wired c j p live wired at other false e =
-        ap (λ ms. is_plugged j (unplugged i ms)) modules ∙ pulled-other i j s.modules e
-        ∙ h.wired c live wired j p at
-
-    by_power : (j : ℕ) (t : Bool) → (i == j) ≡ t → is_powered j (unpowered i s.ports) ≡ true
-        → is_plugged j (unplugged i s1.modules) ≡ true
-    by_power j true e f =
-        absurd (not-both (is_powered j (unpowered i s.ports)) f
-        (ap (λ k. is_powered k (unpowered i s.ports)) (sym (same-number i j e))
-        ∙ ap is_some (none-of (is_port i) s.ports)))
-    by_power j false e f =
-        ap (λ ms. is_plugged j (unplugged i ms)) modules ∙ pulled-other i j s.modules e
-        ∙ h.powered j (sym (ap is_some (left j e)) ∙ f)
-
-    by_range : (j : ℕ) (t : Bool) → (i == j) ≡ t → is_plugged j (unplugged i s.modules) ≡ true
-        → IsIntf j
-    by_range j true e f =
-        absurd (not-both (is_plugged j (unplugged i s.modules)) f
-        (ap (λ k. is_plugged k (unplugged i s.modules)) (sym (same-number i j e))
-        ∙ ap (λ o. is_some (option_map (λ (p : Plugged). p.body) o))
-        (none-of (is_plugged_at i) s.modules)))
-    by_range j false e f = h.range j (sym (pulled-other i j s.modules e) ∙ f)
-
--- what is remembered of pulls is no matter here
-fit-recalled : (i n : ℕ) {s : State} → WiredFit s → WiredFit (recalled n i s)
-fit-recalled i n {s} h = by (is_some (request_of n s.bus))
-  where
-    by : (t : Bool) → WiredFit (cond t (with_told n i s) s)
-    by true = record {
-      wired = h.wired;
-      powered = h.powered;
-      range = h.range;
-      bound = h.bound;
-      routed = h.routed;
-    }
-    by false = h
-
-fit-pulls : (i : ℕ) (told : List Entry) (s : State) → LinkedTo told s → QueueIsAsked s.bus
-    → WiredFit s → WiredFit (pulls i s).state
-unfolding machine_opened
-fit-pulls i told s start asked h = by s.booted
-  where
-    s1 : State
-    s1 = (each (wired_numbers i s.bus) unwires s).state
-
-    cut : WiredFit (with_pulled i (each (wired_numbers i s.bus) unwires s).state)
-    cut = let c = unwires-svc (wired_numbers i s.bus) (wired-others i s start.1) in
-        fit-pulled i s start.0.bus.numbers.rise h _ refl c.modules c.ports
-
-    queue : QueueIsAsked (with_pulled i (each (wired_numbers i s.bus) unwires s).state).bus
-    queue = svc-asked s (unwires-svc (wired_numbers i s.bus) (wired-others i s start.1)) asked
-
-    by : (t : Bool) → WiredFit (when t (tells_removed i)
-        (with_pulled i (each (wired_numbers i s.bus) unwires s).state)).state
-    by true = fit-recalled i (next_number (with_pulled i
-        (each (wired_numbers i s.bus) unwires s).state).bus)
-        (fit-ask _ (after-ask (SvcAsk.ModuleRemoved i) queue) cut)
-    by false = cut
+use Rattle.gb_laws.proofs.svc.WiredPlugs.{fit-boots, fit-plugs, fit-pulls}
+use Rattle.gb_laws.proofs.marks.PlugParts.{CanPlug, kinds-plug, raw-plug}
 
 -- ---- each moment
 
@@ -298,17 +54,19 @@ module _ (m : Moment) (one : IsMoment m.event) (start : WiredTo m.told m.before)
           (ap (λ x. (step m.before x).state) is ∙ ap (λ o. (decided o e m.before).state) f))
           (done f)
 
+  plugged-fit : (i : ℕ) (ms : List Module) → CanPlug i ms m.before.modules
+      → WiredFit (plugs i ms m.before).state
+  plugged-fit i ms can =
+      fit-plugs i ms can (asked-items (resting m.told m.before) start.links.0) start.wired
+
   fit-kept : (e : Event) → m.event ≡ e → IsMoment e → WiredFit (after m)
   unfolding machine_opened
   fit-kept event.Boot is at = fit-asking event.Boot is
       (λ free. fit-boots m.before (asked-items (resting m.told m.before) start.links.0) start.wired)
-  fit-kept (event.Insert i kind) is at = fit-asking (event.Insert i kind) is
-      (λ free. fit-plugs i (module_of_kind kind) at (unmet m.before (event.Insert i kind) free).0
-      (asked-items (resting m.told m.before) start.links.0) start.wired)
+  fit-kept (event.Insert i kinds) is at = fit-asking (event.Insert i kinds) is
+      (λ free. plugged-fit i (map module_of_kind kinds) (kinds-plug m.before i kinds at free))
   fit-kept (event.InsertRaw i manifest) is at = fit-asking (event.InsertRaw i manifest) is
-      (λ free. fit-plugs i (module_raw manifest) at
-      (unmet m.before (event.InsertRaw i manifest) free).0
-      (asked-items (resting m.told m.before) start.links.0) start.wired)
+      (λ free. plugged-fit i (module_raw manifest ∷ []) (raw-plug m.before i manifest at free))
   fit-kept (event.Pull i) is at = fit-asking (event.Pull i) is
       (λ free. fit-pulls i m.told m.before start.links
       (asked-items (resting m.told m.before) start.links.0) start.wired)

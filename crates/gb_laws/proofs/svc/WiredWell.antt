@@ -18,8 +18,9 @@ use Rattle.gb_laws.proofs.points.Points.{Change, IsElse, IsOfSvc, PortsFrom, act
 use Rattle.gb_laws.proofs.points.Points.{changed, loses_route, others, served, wires}
 use Rattle.gb_laws.proofs.{points.Awaited.awaited-rest, points.ChangeBuses.bus_change}
 use Rattle.gb_laws.proofs.{links.LinkActs.awaited-plugs}
-use Rattle.gb_laws.proofs.{marks.Marks.still-plugged, points.PointParts.Basis}
+use Rattle.gb_laws.proofs.{points.PointParts.Basis}
 use Rattle.gb_laws.proofs.{points.PointParts.Point}
+use Rattle.gb_laws.proofs.marks.Wholes.{still-plugged}
 
 -- What is wired to a module, and what is powered, is plugged, at interfaces in range. What is wired
 -- is routed, which is the highest level.

@@ -29,10 +29,10 @@ use Rattle.gb_machine.specs.Responding.{Response, far_response, host_behind, rep
 use Rattle.gb_machine.specs.Responding.{serves, serves_oneway}
 use Rattle.gb_machine.specs.Runs.{IsMoment, Moment, after}
 use Rattle.gb_machine.specs.{Events.step, Host.link_of, HostActs.follows, HostServing.HostServed}
-use Rattle.gb_machine.specs.{HostServing.host_serves, HostTurns.host_turn, Lists.behind_first}
+use Rattle.gb_machine.specs.{HostServing.host_serves, Lists.behind_first}
 use Rattle.gb_machine.specs.{Lists.first, Members.EachTwo, Members.IsIn, Modules.module_at}
 use Rattle.gb_machine.specs.{Refusals.refusal, Requests.given_up_with, Requests.open_with}
-use Rattle.gb_machine.specs.{Serving.success, State.State, SvcTable.svc_step, Turns.Act}
+use Rattle.gb_machine.specs.{Serving.success, State.State, SvcTable.svc_step}
 use Rattle.gb_invariants.proofs.{Awaiting.none-some, Awaiting.same-some, BusChanges.BusChange}
 use Rattle.gb_invariants.proofs.{Numbers.found-by_number}
 use Rattle.gb_invariants.specs.{Facts.IsBefore, Facts.is_numbered}
@@ -41,8 +41,10 @@ use Rattle.gb_laws.proofs.taking.TakenActs.{follows-tell}
 use Rattle.gb_laws.proofs.taking.TakenActs.{follows-▸, left-by}
 use Rattle.gb_laws.proofs.taking.TakenKnown.{asked-made, labelled-answer, link-peer}
 use Rattle.gb_laws.proofs.taking.TakenKnown.{numbered-answer}
-use Rattle.gb_laws.proofs.taking.TakenKnown.{other-unwired, stays-answered, stays-unlinked, taken}
+use Rattle.gb_laws.proofs.taking.TakenKnown.{other-unwired, stays-answered, taken, unlinked}
 use Rattle.gb_laws.proofs.taking.TakenKnown.{unclean}
+use Rattle.gb_laws.proofs.taking.TakenModules.{Unlinked, follows-notices}
+use Rattle.gb_laws.proofs.links.Links.{HostFits}
 use Rattle.gb_laws.proofs.taking.TakenServed.{follows-decided, follows-host, follows-module}
 use Rattle.gb_laws.proofs.taking.TakenTells.{HeardBy, HeardOf, heard, names-told}
 use Rattle.gb_laws.proofs.{basis.Basics.basis, points.Places.IsPlace, points.Places.place-is}
@@ -180,8 +182,9 @@ module _ (m : Moment) (h : StaleTo m.told m.before) (to : End) (p : Place) (item
           → Follows aim (host_behind (host_serves p.connection.number kind payload m.before.host)) u
       by None e w = follows-host aim r.host r.told r.notices u
           (λ x f. absurd (none-some (sym w.0 ∙ f)))
-          (λ x f i. stays-unlinked m h to p item named front x e
-          (subst (λ g. IsIn (Act.Leave p.connection.number) (host_turn x g).acts) w.1 i))
+          (λ x f. follows-notices aim x (record u { host = r.host })
+          (subst (HostFits m.before.bus) (sym w.1) h.since.links.1.host)
+          (subst (Unlinked aim) (sym w.1) (unlinked m h to p item named front e)))
       by (Some l) e w = follows-host aim r.host r.told r.notices u (names-all l r.told e w.0)
           (λ x f. absurd (none-some (sym w.1 ∙ f)))
 

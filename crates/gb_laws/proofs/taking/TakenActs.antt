@@ -5,7 +5,6 @@ use Rattle.std.proofs.Common.{sym, true, ℕ, [], ◌+◌, ◌∷◌, ◌≡◌}
 use Rattle.gb_base.specs.declared.end.Side.{Side}
 use Rattle.gb_base.specs.declared.entry.Entry.{Entry}
 use Rattle.gb_base.specs.declared.host_event.HostEvent.TheVariants as host_event
-use Rattle.gb_base.specs.declared.host_event.HostEvent.{HostEvent}
 use Rattle.gb_base.specs.declared.served.OwnAsk.{OwnAsk}
 use Rattle.gb_base.specs.declared.bridge.Reading.TheVariants as reading
 use Rattle.gb_base.specs.declared.end.Side.TheVariants as side
@@ -33,6 +32,8 @@ use Rattle.gb_machine.specs.Requests.{is_idle, same_side}
 use Rattle.gb_invariants.proofs.{Awaiting.none-some, Awaiting.same-some, BusChanges.BusChange}
 use Rattle.gb_invariants.proofs.{BusChanges.bus_after, Lists.each-append, Lists.each-weaker}
 use Rattle.gb_invariants.proofs.{Wires.cuts_of}
+use Rattle.gb_invariants.proofs.HostChanges.{Notice, at_event, turn_of}
+use Rattle.gb_invariants.proofs.ModuleTurns.{takes_notice}
 use Rattle.gb_laws.proofs.taking.TakenQueues.{IsLeft, IsUntaken, left-after}
 use Rattle.gb_laws.proofs.taking.TakenTells.{AreConsequences, TellsConsequence, turn-follows}
 use Rattle.gb_laws.proofs.taking.TakenTells.{unsent-follows}
@@ -196,20 +197,20 @@ module _ (aim : Taking) where
       (follows-acts xs (acts x s).state none.1 (λ i. stays (inr i)))
 
   -- The application processor takes notice of something, and doesn't give up the connection.
-  pub follows-notices : (e : HostEvent) (s : State)
-      → (IsIn (Act.Leave aim.number) (host_turn e s.host).acts → ⊥) → Follows (notices e) s
+  pub follows-notice : (x : Notice) (s : State)
+      → (IsIn (Act.Leave aim.number) (turn_of x s.host).acts → ⊥) → Follows (takes_notice x) s
   unfolding machine_opened
-  follows-notices e s stays =
-      let after = record s { host = (host_turn e s.host).host } in
-      follows-▸ (on_host (λ h. (host_turn e s.host).host)) (each (host_turn e s.host).acts acts)
+  follows-notice x s stays =
+      let after = record s { host = (turn_of x s.host).host } in
+      follows-▸ (on_host (λ h. (turn_of x s.host).host)) (each (turn_of x s.host).acts acts)
       {s = s} (tt, λ h. h)
-      (follows-acts (host_turn e s.host).acts after (turn-follows e s.host) stays)
+      (follows-acts (turn_of x s.host).acts after (turn-follows x s.host) stays)
 
   -- A connection that drains closes where it is idle.
   follows-idles : (k : ℕ) (s : State) → Follows (idles k) s
   unfolding machine_opened
   follows-idles k s = follows-when (is_idle k s.bus) (notices (host_event.Idle k)) s
-      (follows-notices (host_event.Idle k) s (idle-leaves k s.host aim.number))
+      (follows-notice (at_event (host_event.Idle k)) s (idle-leaves k s.host aim.number))
 
   follows-idles_behind : (o : Option Request) (s : State) → Follows (given o idles_behind) s
   unfolding machine_opened
@@ -224,5 +225,5 @@ module _ (aim : Taking) where
   unfolding machine_opened
   follows-ended n how s stays =
       follows-▸ (notices (host_event.Ended n how)) (given (request_of n s.bus) idles_behind) {s = s}
-      (follows-notices (host_event.Ended n how) s stays)
+      (follows-notice (at_event (host_event.Ended n how)) s stays)
       (follows-idles_behind (request_of n s.bus) (notices (host_event.Ended n how) s).state)

@@ -4,7 +4,6 @@ use Rattle.std.proofs.Common.{[], ◌∙◌, ◌≡◌}
 use Rattle.std.specs.Prelude.{option_map, ◌==◌}
 use Rattle.gb_base.specs.declared.end.End.{End}
 use Rattle.gb_base.specs.declared.host_event.HostEvent.TheVariants as host_event
-use Rattle.gb_base.specs.declared.host_event.HostEvent.{HostEvent}
 use Rattle.gb_base.specs.declared.outcome.Outcome.{Outcome}
 use Rattle.gb_base.specs.declared.peers.Link.{Link}
 use Rattle.gb_base.specs.declared.end.End.TheVariants as end
@@ -21,6 +20,7 @@ use Rattle.gb_invariants.proofs.Outcomes.{both-true, is-same, same-number}
 use Rattle.gb_invariants.proofs.{Drawing.open_with-in_use, ItemChanges.first-in, Lists.found-in}
 use Rattle.gb_invariants.proofs.{Numbers.same-connection, Selves.module-no-svc}
 use Rattle.gb_invariants.specs.Facts.{IsMadeOn, IsOwn, is_numbered}
+use Rattle.gb_invariants.proofs.HostChanges.{at_event}
 use Rattle.gb_laws.proofs.links.LinkLeaves.{WhyLeft, closed, removed, why-left}
 use Rattle.gb_laws.proofs.links.Links.{IsKnown, leaving, linked, supervisory}
 use Rattle.gb_laws.proofs.{links.LinkFrom.Linked, links.LinkLists.found-link}
@@ -120,13 +120,14 @@ module _ (m : Moment) (h : StaleTo m.told m.before) (to : End) (p : Place) (item
   pub stays-answered : (n : ℕ) (how : Outcome) → IsAnswerTo p item m.before.bus n
       → IsIn (Act.Leave p.connection.number) (host_turn (host_event.Ended n how) m.before.host).acts
       → ⊥
-  stays-answered n how x i = by (why-left m.before.bus (host_event.Ended n how) m.before.host
-      p.connection.number links.host i)
+  stays-answered n how x i = by (why-left m.before.bus (at_event (host_event.Ended n how))
+      m.before.host p.connection.number links.host i)
     where
-      same-ended : (j k : ℕ) (a b : Outcome) → host_event.Ended j a ≡ host_event.Ended k b → j ≡ k
+      same-ended : (j k : ℕ) (a b : Outcome) → at_event (host_event.Ended j a)
+          ≡ at_event (host_event.Ended k b) → j ≡ k
       same-ended j k a b e = cc
 
-      by : WhyLeft m.before.host (host_event.Ended n how) p.connection.number → ⊥
+      by : WhyLeft m.before.host (at_event (host_event.Ended n how)) p.connection.number → ⊥
       by (removed j l is known at number) = absurd cc
       by (closed k result payload l is known waits number) =
           let pair = (h.pairs.bound l known (k, _) waits).own refl in
@@ -158,20 +159,12 @@ module _ (m : Moment) (h : StaleTo m.told m.before) (to : End) (p : Place) (item
           (one-link m.before.host.links x l links.host.links.rise i f.0
           (sym of.number ∙ sym (same-number l.connection p.connection.number f.1)))
 
-  -- where the connection has no link, no turn gives it up
-  pub stays-unlinked : (e : HostEvent) → link_of p.connection.number m.before.host ≡ None
-      → IsIn (Act.Leave p.connection.number) (host_turn e m.before.host).acts → ⊥
-  stays-unlinked e none i = by (why-left m.before.bus e m.before.host p.connection.number links.host
-      i)
-    where
-      known-no : (l : Link) → IsIn l m.before.host.links → l.connection ≡ p.connection.number → ⊥
-      known-no l j number = none-some (sym none
-          ∙ subst (λ k. link_of k m.before.host ≡ Some l) number
-          (found-link m.before.host.links l links.host.links.rise j))
-
-      by : WhyLeft m.before.host e p.connection.number → ⊥
-      by (removed j l is known at number) = known-no l known number
-      by (closed k result payload l is known waits number) = known-no l known number
+  -- where it has no link
+  pub unlinked : link_of p.connection.number m.before.host ≡ None → (l : Link)
+      → IsIn l m.before.host.links → l.connection ≡ p.connection.number → ⊥
+  unlinked none l j number = none-some (sym none
+      ∙ subst (λ k. link_of k m.before.host ≡ Some l) number
+      (found-link m.before.host.links l links.host.links.rise j))
 
   -- ---- the supervisory controller
 

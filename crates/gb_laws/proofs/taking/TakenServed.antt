@@ -11,14 +11,14 @@ use Rattle.gb_machine.specs.Responding.{Response, creates, destroys, module_resp
 use Rattle.gb_machine.specs.Responding.{responds_plainly, responds_with, svc_decided, with_ports}
 use Rattle.gb_machine.specs.Serving.{invalid, nonexistent, plainly, success}
 use Rattle.gb_machine.specs.SvcTable.{Answered, Create, Destroy, SvcServed, Unroute}
-use Rattle.gb_machine.specs.{Bus.Connection, Host.Host, HostActs.notices, HostTurns.host_turn}
-use Rattle.gb_machine.specs.{Incoming.Incoming, Members.IsIn, Modules.with_module}
+use Rattle.gb_machine.specs.{Bus.Connection, Host.Host, HostActs.notices}
+use Rattle.gb_machine.specs.{Incoming.Incoming, Modules.with_module}
 use Rattle.gb_machine.specs.{OwnAsking.far_asks_all, Ports.unrouted, Requests.open_on, State.Port}
-use Rattle.gb_machine.specs.{State.State, Turns.Act, Wires.unwires, Wires.wires}
+use Rattle.gb_machine.specs.{State.State, Wires.unwires, Wires.wires}
 use Rattle.gb_machine.specs.{Wiring.is_wired_to, Wiring.joining}
 use Rattle.gb_invariants.proofs.{Awaiting.none-some, Awaiting.same-some, BusChanges.BusChange}
 use Rattle.gb_laws.proofs.taking.TakenActs.{Follows, Taking, ends-follow, follows-change}
-use Rattle.gb_laws.proofs.taking.TakenActs.{follows-far_asks_all, follows-nothing, follows-notices}
+use Rattle.gb_laws.proofs.taking.TakenActs.{follows-far_asks_all, follows-nothing}
 use Rattle.gb_laws.proofs.taking.TakenActs.{follows-tell, follows-▸, left-by, tells-follow}
 
 module _ (aim : Taking) where
@@ -27,26 +27,26 @@ module _ (aim : Taking) where
   -- what it is then, what it tells and what it takes notice of
   pub follows-host : (g : Host) (o : Option Entry) (n : Option HostEvent) (u : State)
       → ((x : Entry) → o ≡ Some x → aim.tells x)
-      → ((e : HostEvent) → n ≡ Some e → IsIn (Act.Leave aim.number) (host_turn e g).acts → ⊥)
+      → ((e : HostEvent) → n ≡ Some e → Follows aim (notices e) (record u { host = g }))
       → Follows aim (on_host (λ old. g) ▸ given o tell ▸ given n notices) u
   unfolding machine_opened
-  follows-host g o n u of stays =
+  follows-host g o n u of noticed =
       follows-▸ aim (on_host (λ old. g) ▸ given o tell) (given n notices) {s = u}
       (follows-▸ aim (on_host (λ old. g)) (given o tell) {s = u} (tt, λ l. l) (says o of))
-      (takes_notice o n stays)
+      (takes_notice o n noticed)
     where
       says : (o : Option Entry) → ((x : Entry) → o ≡ Some x → aim.tells x)
           → Follows aim (given o tell) (record u { host = g })
       says None f = follows-nothing aim (record u { host = g })
       says (Some x) f = follows-tell aim x (record u { host = g }) (f x refl)
 
-      takes_notice : (o : Option Entry) (n : Option HostEvent) → ((e : HostEvent) → n ≡ Some e
-          → IsIn (Act.Leave aim.number) (host_turn e g).acts → ⊥)
+      takes_notice : (o : Option Entry) (n : Option HostEvent)
+          → ((e : HostEvent) → n ≡ Some e → Follows aim (notices e) (record u { host = g }))
           → Follows aim (given n notices) ((on_host (λ old. g) ▸ given o tell) u).state
       takes_notice None None f = follows-nothing aim (record u { host = g })
-      takes_notice None (Some e) f = follows-notices aim e (record u { host = g }) (f e refl)
+      takes_notice None (Some e) f = f e refl
       takes_notice (Some x) None f = follows-nothing aim (record u { host = g })
-      takes_notice (Some x) (Some e) f = follows-notices aim e (record u { host = g }) (f e refl)
+      takes_notice (Some x) (Some e) f = f e refl
 
   -- ---- modules
 

@@ -4,7 +4,6 @@ use Rattle.std.proofs.Common.{Bool, List, None, Option, Some, ap, cond, false, m
 use Rattle.std.proofs.Common.{[], ◌∙◌, ◌∷◌, ◌≡◌}
 use Rattle.std.specs.Prelude.{Err, Ok, Result, ◌==◌}
 use Rattle.gb_base.specs.declared.entry.Entry.{Entry}
-use Rattle.gb_base.specs.declared.host_event.HostEvent.{HostEvent}
 use Rattle.gb_base.specs.declared.peers.Link.{Link}
 use Rattle.gb_base.specs.declared.steps.Purpose.{Purpose}
 use Rattle.gb_base.specs.declared.end.End.TheVariants as end
@@ -17,13 +16,14 @@ use Rattle.gb_machine.specs.Bus.{Bus, Item, Place}
 use Rattle.gb_machine.specs.HostServing.{HostServed, credited, host_refuses, interrupted}
 use Rattle.gb_machine.specs.HostServing.{notified_by, served_on, serves_gpio, serves_uart}
 use Rattle.gb_machine.specs.HostServing.{uart_notified_by}
-use Rattle.gb_machine.specs.HostTurns.{host_turn, links_left, links_of}
+use Rattle.gb_machine.specs.HostTurns.{links_left, links_of}
 use Rattle.gb_machine.specs.{Failures.unsent, Host.Host, LawsHotPlug.IsToldOf}
 use Rattle.gb_machine.specs.{LawsHotPlug.is_consequence, Members.Each, Serving.protocol_bad}
 use Rattle.gb_machine.specs.Turns.{Act}
 use Rattle.gb_invariants.proofs.HostChanges.{Finds, HostChange, HostEnd, IsOfNone, Occasion}
-use Rattle.gb_invariants.proofs.HostChanges.{TurnLaw, acts_by, at_event, at_unsent, end_of}
+use Rattle.gb_invariants.proofs.HostChanges.{TurnLaw, acts_by, at_notice, at_unsent, end_of}
 use Rattle.gb_invariants.proofs.{Lists.each-append, OverTurns.over-turn, OverTurns.over-unsent}
+use Rattle.gb_invariants.proofs.HostChanges.{Notice, turn_of}
 
 -- ---- entries
 
@@ -71,8 +71,8 @@ follows_law o = record {
 }
 
 -- What the application processor tells at what it takes notice of is such.
-pub turn-follows : (e : HostEvent) (h : Host) → Each TellsConsequence (host_turn e h).acts
-turn-follows e h = over-turn e h (follows_law (at_event e h))
+pub turn-follows : (e : Notice) (h : Host) → Each TellsConsequence (turn_of e h).acts
+turn-follows e h = over-turn e h (follows_law (at_notice e h))
 
 -- and so does what fails where a request can't be made
 pub unsent-follows : (p : Purpose) (h : Host) → AreConsequences (unsent p h).told

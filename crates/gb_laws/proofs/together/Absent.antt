@@ -11,16 +11,17 @@ use Rattle.gb_machine.specs.Bus.{Ask, Connection, Place, Request, connection_of,
 use Rattle.gb_machine.specs.Bus.{request_of}
 use Rattle.gb_machine.specs.Host.{first_host, interface_of, link_of}
 use Rattle.gb_machine.specs.Runs.{IsMoment, Moment, after}
-use Rattle.gb_machine.specs.SvcQueues.{HandlesInsertion, HandlesRemoval, items_in}
+use Rattle.gb_machine.specs.SvcQueues.{HandlesInsertion, HandlesRemoval, inserts, items_in}
 use Rattle.gb_machine.specs.{HostServing.served_on, LawsHotPlug.AbsentBetween}
 use Rattle.gb_machine.specs.{LawsHotPlug.AbsentIsUnconnected, Lists.first, Members.IsIn}
 use Rattle.gb_machine.specs.{State.State, Wiring.is_at}
 use Rattle.gb_invariants.proofs.Awaiting.{not-both, same-some}
 use Rattle.gb_invariants.proofs.{Lists.each-from, Numbers.found-by_number}
 use Rattle.gb_invariants.proofs.{Outcomes.same-number}
+use Rattle.gb_invariants.proofs.ModuleTurns.{in-span}
 use Rattle.gb_laws.proofs.links.Links.{IsKnown, IsPresent, leaving, linked, supervisory}
-use Rattle.gb_laws.proofs.marks.MarkKnown.{KnownAt, WasKnown, known-kept}
-use Rattle.gb_laws.proofs.points.PointParts.{Basis, IsNoticed, resting}
+use Rattle.gb_laws.proofs.marks.MarkKnown.{IsInserted, KnownAt, WasKnown, known-kept}
+use Rattle.gb_laws.proofs.points.PointParts.{Basis, resting}
 use Rattle.gb_laws.proofs.runs.Runs.{HoldsAtMoments, HoldsByMoments, at_each, weaker}
 use Rattle.gb_laws.proofs.{identifiers.Endpoints.ApartTo, identifiers.Endpoints.apart-throughout}
 use Rattle.gb_laws.proofs.{links.LinkFrom.Linked}
@@ -28,11 +29,13 @@ use Rattle.gb_laws.proofs.{links.LinkKept.InsertsAbsent, links.LinkLaw.link_law}
 use Rattle.gb_laws.proofs.{links.LinkRuns.start-absent}
 use Rattle.gb_laws.proofs.marks.MarkMoments.{present-some, some-none, some-present}
 use Rattle.gb_laws.proofs.marks.MarkNotices.{IsToldBySvc, notice-any, reads-front, told-by_svc}
-use Rattle.gb_laws.proofs.marks.Marks.{IsRemoval, known-there, known_at, notice_of}
+use Rattle.gb_laws.proofs.marks.Marks.{IsRemoval, known-in, known-there, known_at, notice_of}
 use Rattle.gb_laws.proofs.{marks.MarkTakes.no-link-one}
 use Rattle.gb_laws.proofs.{points.Points.Law, points.Points.upon, links.Removing.removed-absent}
 use Rattle.gb_laws.proofs.{runs.SettleQueues.IsFarEnd}
 use Rattle.gb_laws.proofs.{runs.SettleQueues.place-found, steps.Steps.over-step}
+use Rattle.gb_laws.proofs.marks.MarkHosts.{named-one}
+use Rattle.gb_laws.proofs.marks.Wholes.{is_within, true-within}
 
 -- ---- no live connection names an absent interface
 
@@ -57,12 +60,13 @@ unconnected i s links absent c live = by (links.known c live)
 -- what is known of interfaces, with what it stands on
 abbrev known_law : (m : Moment) → InsertsAbsent m → Law m
 known_law m absent =
-    upon (link_law m absent) (KnownAt m) (λ a x g h. known-kept m absent a x g.1 h)
+    upon (link_law m absent) (KnownAt m) (λ a x g h. known-kept m a x h)
 
 inserted-noticed : (m : Moment) → IsMoment m.event → ApartTo m.told m.before → (i : ℕ)
     → interface_of i m.before.host ≡ None → is_some (interface_of i (after m).host) ≡ true
-    → IsNoticed m (host_event.Inserted i)
-inserted-noticed m one start i absent there = by (stays p.interface p.known)
+    → (p : ℕ) × IsInserted m i p
+inserted-noticed m one start i absent there =
+    (p.interface.primary, by (stays p.interface p.known))
   where
     p : IsPresent i (after m).host.interfaces
     p = some-present i (after m).host there
@@ -70,33 +74,48 @@ inserted-noticed m one start i absent there = by (stays p.interface p.known)
     stays : KnownAt m (resting [] (after m))
     stays = (over-step m (known_law m (start-absent m start.links)) one (
       (start.links.0, start.links.1),
-      λ x j. inl (record { interface = x; known = j; is = refl }),
+      λ x j. inl (named-one m.before.host x j),
     )).1.1
 
-    by : WasKnown m p.interface.intf → IsNoticed m (host_event.Inserted i)
+    by : WasKnown m p.interface.intf p.interface.primary → IsInserted m i p.interface.primary
     by (inl k) = absurd (not-both (is_some (interface_of i m.before.host))
-        (present-some m.before.host (subst (λ n. IsPresent n m.before.host.interfaces) p.is k))
+        (present-some m.before.host
+        (record { interface = k.interface; known = k.known; is = k.intf ∙ p.is }))
         (ap is_some absent))
-    by (inr n) = subst (λ k. IsNoticed m (host_event.Inserted k)) p.is n
+    by (inr n) = subst (λ k. IsInserted m k p.interface.primary) p.is n
 
 -- the front request says so
+record IsToldInsertion (m : Moment) (i : ℕ) : Type 0 where
+  primary : ℕ
+  count : ℕ
+  within : is_within primary count i ≡ true
+  told : IsToldBySvc m (host_event.Inserted primary count)
+
 inserted-told : (m : Moment) → IsMoment m.event → ApartTo m.told m.before → (i : ℕ)
     → interface_of i m.before.host ≡ None → is_some (interface_of i (after m).host) ≡ true
-    → IsToldBySvc m (host_event.Inserted i)
-inserted-told m one start i absent there = told-by_svc m (host_event.Inserted i) start.links.0
-    start.links.1 (inserted-noticed m one start i absent there)
+    → IsToldInsertion m i
+inserted-told m one start i absent there =
+    let n = inserted-noticed m one start i absent there in
+    let r = in-span i n.0 n.1.count n.1.within in record {
+      primary = n.0;
+      count = n.1.count;
+      within = true-within n.0 n.1.count i r.0 r.1;
+      told = told-by_svc m (host_event.Inserted n.0 n.1.count) start.links.0 start.links.1
+          n.1.noticed;
+    }
 
 inserted-at : (m : Moment) → IsMoment m.event → ApartTo m.told m.before → (i : ℕ)
     → interface_of i m.before.host ≡ None → is_some (interface_of i (after m).host) ≡ true
     → HandlesInsertion i m
 inserted-at m one start i absent there =
-    let t = inserted-told m one start i absent there in record {
+    let n = inserted-told m one start i absent there in
+    let t = n.told in record {
       number = t.number;
       request = t.request;
       is = t.is;
       front = t.front;
       made = t.made;
-      passes = t.tells;
+      passes = ap (inserts i) t.tells.1 ∙ n.within;
     }
 
 -- ---- a removal is handled
@@ -163,24 +182,26 @@ removed-at m one start i h = by (interface_of i m.before.host) refl
         → interface_of i (after m).host ≡ None
     by (Some x) e =
         let known = known-there i m.before.host (ap is_some e) in
-        subst (λ k. interface_of k (after m).host ≡ None) (sym (own i known))
-        (removed-absent m (end.Ap 0) p h.number r.primary r.request h.is named refl front r.made
-        none notices)
+        removed-absent m (end.Ap 0) p h.number r.primary i r.request h.is named refl front r.made
+        none notices (known-in i r.primary m.before.host
+        (known.1 ∙ ap Some (own known.0 known.1)))
     by None e = still (is_some (interface_of i (after m).host)) refl
       where
         same-ask : (x y : ℕ) → Some (Ask x) ≡ Some (Ask y) → x ≡ y
         same-ask x y f = cc
 
-        apart : (x y : ℕ) → Some (host_event.Inserted x) ≡ Some (host_event.Removed y) → ⊥
-        apart x y f = absurd cc
+        apart : (x count y : ℕ)
+            → Some (host_event.Inserted x count) ≡ Some (host_event.Removed y) → ⊥
+        apart x count y f = absurd cc
 
         -- the front request tells one or the other
-        other : IsToldBySvc m (host_event.Inserted i) → ⊥
-        other t =
+        other : IsToldInsertion m i → ⊥
+        other n =
+            let t = n.told in
             let numbers = same-ask t.number h.number (sym t.front ∙ h.front) in
             let same = same-some t.request r.request
             (sym t.made ∙ ap (λ n. request_of n m.before.bus) numbers ∙ r.made) in
-            apart i r.primary (sym t.notice
+            apart n.primary n.count r.primary (sym t.notice
             ∙ ap (λ (q : Request). notice_of q.kind q.payload) same ∙ r.notice)
 
         still : (t : Bool) → is_some (interface_of i (after m).host) ≡ t

@@ -1,6 +1,6 @@
 -- A manifest that is plugged fits into a message, and what comes from outside doesn't change it.
-use Rattle.std.proofs.Common.{List, None, Option, Some, ap, arith, length, refl}
-use Rattle.std.proofs.Common.{subst, sym, ℕ, ⊎_elim, ◌≡◌, ◌≤◌}
+use Rattle.std.proofs.Common.{List, None, Option, Some, ap, arith, length, refl, subst, sym, ℕ}
+use Rattle.std.proofs.Common.{⊎_elim, ◌≡◌, ◌≤◌}
 use Rattle.std.proofs.lemmas.Bool.Decides.{nat_tests}
 use Rattle.std.specs.List.{find}
 use Rattle.std.specs.Prelude.{option_map}
@@ -8,10 +8,8 @@ use Rattle.gb_base.specs.declared.event.Kind.{Kind}
 use Rattle.gb_base.specs.declared.event.Event.TheVariants as event
 use Rattle.gb_base.specs.declared.event.Kind.TheVariants as kinds
 use Rattle.gb_formats.specs.Devices.{Device, Stir, device_stir}
-use Rattle.gb_formats.specs.Module.{Module, ModulePort, module_of_kind}
-use Rattle.gb_formats.specs.Module.{module_raw, port_at}
-use Rattle.gb_formats.specs.ModuleSteps.{module_stir, port_stir}
-use Rattle.gb_formats.specs.ModuleSteps.{port_stirred}
+use Rattle.gb_formats.specs.Module.{Module, ModulePort, module_of_kind, module_raw, port_at}
+use Rattle.gb_formats.specs.ModuleSteps.{module_stir, port_stir, port_stirred}
 use Rattle.gb_formats.specs.{Results.Stirred}
 use Rattle.gb_machine.proofs.Conditions.{free}
 use Rattle.gb_machine.specs.Modules.{is_plugged_at, module_at, plugged, plugged_before}
@@ -53,12 +51,12 @@ short-at i ms x e h = by (find (is_plugged_at i) ms) refl e
     by (Some p) f g = subst (λ (y : Module). length y.manifest ≤ longest_manifest)
         (same-some p.body x g) (h p (found-in (is_plugged_at i) ms p f).0)
 
--- a module more
-pub short-plugged : (i : ℕ) (x : Module) (ms : List Plugged) → AreShort ms
-    → length x.manifest ≤ longest_manifest → AreShort (plugged i x ms)
-short-plugged i x ms h fits p k = ⊎_elim
+-- a part more
+pub short-plugged : (x : Plugged) (ms : List Plugged) → AreShort ms
+    → length x.body.manifest ≤ longest_manifest → AreShort (plugged x ms)
+short-plugged x ms h fits p k = ⊎_elim
     (λ e. subst (λ (q : Plugged). length q.body.manifest ≤ longest_manifest) (sym e) fits)
-    (λ old. h p old) (in-ordered plugged_before p (record { intf = i; body = x }) ms k)
+    (λ old. h p old) (in-ordered plugged_before p x ms k)
 
 -- ---- what is inserted
 
@@ -74,4 +72,4 @@ pub raw-short : (s : State) (i : ℕ) (manifest : List ℕ)
     → refusal s (event.InsertRaw i manifest) ≡ None
     → length (module_raw manifest).manifest ≤ longest_manifest
 raw-short s i manifest allowed =
-    let fits = (free s (event.InsertRaw i manifest) allowed).1.0 in grind (arith, nat_tests)
+    let fits = (free s (event.InsertRaw i manifest) allowed).1.1.0 in grind (arith, nat_tests)

@@ -1,5 +1,5 @@
 -- The enumerations begin, and the interfaces are known.
-use Rattle.std.proofs.Common.{◌≡◌, List, ℕ, ◌++◌, ap, sym, subst, ◌∙◌, refl}
+use Rattle.std.proofs.Common.{◌++◌, ap, subst, ◌∙◌, refl}
 use Rattle.gb_host.proofs.Modules.{inserted-turns}
 use Rattle.gb_host.specs.Changes.{with_module}
 use Rattle.gb_host.specs.Stands.{host_of}

@@ -1,5 +1,5 @@
 -- One interface more is left.
-use Rattle.std.proofs.Common.{◌≡◌, [], ◌∷◌, ◌++◌, ap, get_or, sym, ◌∙◌, take}
+use Rattle.std.proofs.Common.{◌++◌, ap, get_or, sym, ◌∙◌, take}
 use Rattle.std.proofs.lemmas.List.{take_more}
 use Rattle.gb_host.proofs.Modules.{left-more}
 use Rattle.gb_host.specs.Stands.{host_of}
@@ -14,7 +14,8 @@ loop-i-preserved c =
     let i = get_or is c.loop-i.i 0 in
     left-more (take c.loop-i.i is) i h c.args.acts c.loop-i.acts c.in_ok-acts.acts
     c.loop-i.invariant
-    (c.in_ok-acts.ensures ∙ ap (λ gone. c.loop-i.acts
-    ++ spelled (host_removed i (one_by_one host_removed gone h).host).acts) c.split_at.ensures.front)
+    (c.in_ok-acts.ensures
+    ∙ ap (λ js. c.loop-i.acts ++ spelled (host_removed i (one_by_one host_removed js h).host).acts)
+    c.split_at.ensures.front)
     ∙ ap (λ js. c.args.acts ++ spelled (one_by_one host_removed js h).acts)
     (sym (take_more is c.loop-i.i 0 c.loop-i-test.true))

@@ -8,4 +8,4 @@ use Rattle.gb_host.proofs.host.Host.leave_module.Given as goal
 abbrev pub invariant-loop-i : goal.invariant-loop-i
 invariant-loop-i l =
     l.acts ≡ l.fn.acts
-        ++ spelled (one_by_one host_removed (take l.i l.intfs) (host_of l.self)).acts
+    ++ spelled (one_by_one host_removed (take l.i l.intfs) (host_of l.self)).acts

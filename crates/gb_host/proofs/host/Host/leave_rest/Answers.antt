@@ -1,5 +1,5 @@
 -- Where the interface is gone already, it has no connections left.
-use Rattle.std.proofs.Common.{◌≡◌, [], ◌++◌, ap, sym, ◌∙◌, cond, append-nil}
+use Rattle.std.proofs.Common.{[], ◌++◌, ap, sym, ◌∙◌, cond, append-nil}
 use Rattle.gb_host.proofs.Modules.{rest-links}
 use Rattle.gb_host.specs.Stands.{host_of}
 use Rattle.gb_host.specs.Turning.{spelled}

@@ -7,5 +7,5 @@ use Rattle.gb_host.proofs.interfaces.Interfaces.of.Given as goal
 abbrev pub invariant-loop-interface : goal.invariant-loop-interface
 invariant-loop-interface l =
     l.intfs ++ map (λ x. x.intf)
-        (filter (has_primary l.primary) (drop l.interface-index l.interface-items))
+    (filter (has_primary l.primary) (drop l.interface-index l.interface-items))
     ≡ map (λ x. x.intf) (filter (has_primary l.primary) l.interface-items)
