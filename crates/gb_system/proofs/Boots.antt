@@ -109,17 +109,21 @@ does-greets x y z s st one two =
 
 -- ---- what is plugged is told
 
--- MODULE_INSERTED of a module
+-- MODULE_INSERTED of the module of which this is a part
 abbrev pub tells : Plugged → Action
-tells p = tells_inserted p.intf
+tells p = tells_inserted p.primary p.count
+
+-- the parts at primary interfaces
+abbrev pub primaries : List Plugged → List Plugged
+primaries ms = filter is_primary ms
 
 -- what a start does at a state
 abbrev boots_at : State → Action
-boots_at s = greets ▸ each s.modules tells
+boots_at s = greets ▸ each (primaries s.modules) tells
 
--- Of so many modules that many are told.
+-- Of so many parts that many were looked at, and their modules are told.
 pub record IsBooting (x : Parties) (s : State) (i n : ℕ) (before told : List Entry) : Type 0 where
-  pub midway : Midway x (boots_at s) (each (drop i s.modules) tells) s before told
+  pub midway : Midway x (boots_at s) (each (primaries (drop i s.modules)) tells) s before told
   pub modules : x.modules ≡ s.modules
   pub count : n ≡ length s.modules
 
@@ -143,54 +147,99 @@ pub boot-first : (x y z : Parties) (s : State) (n : ℕ) (before b told : List E
 boot-first x y z s n before b told st one two count =
     let d = does-greets x y z s st.parts one two in
     let modules = sym d.stand.modules ∙ greets-modules s in record {
-      midway = midway-begun greets (each s.modules tells) d;
+      midway = midway-begun greets (each (primaries s.modules) tells) d;
       modules = modules;
       count = count ∙ ap length modules;
     }
 
--- the module at a place
-record IsNext (ms : List Plugged) (i : ℕ) (o : Option ℕ) : Type 0 where
-  module_there : Plugged
-  is : o ≡ Some module_there.intf
-  next : drop i ms ≡ module_there ∷ drop (suc i) ms
+-- the part at a place, and what is told of it
+record IsNext (ms : List Plugged) (i : ℕ) (o : Option Span) : Type 0 where
+  part : Plugged
+  is : o ≡ told_span part
+  next : drop i ms ≡ part ∷ drop (suc i) ms
 
-is-next : (ms : List Plugged) (i : ℕ) (o : Option ℕ) → o ≡ slice_get (intfs_of ms) i
-    → i < length ms → IsNext ms i o
+is-next : (ms : List Plugged) (i : ℕ) (o : Option Span)
+    → o ≡ option_and_then told_span (slice_get ms i) → i < length ms → IsNext ms i o
 is-next [] i o is within = absurd (omega (arith, within))
-is-next (p ∷ ps) zero o is within = record { module_there = p; is = is; next = refl }
+is-next (p ∷ ps) zero o is within = record { part = p; is = is; next = refl }
 is-next (p ∷ ps) (suc i) o is within =
     let r = is-next ps i o is (omega (arith, within)) in
-    record { module_there = r.module_there; is = r.is; next = r.next }
+    record { part = r.part; is = r.is; next = r.next }
 
--- at each place there is one
-pub boot-there : (x : Parties) (s : State) (i n : ℕ) {before told : List Entry} (o : Option ℕ)
-    → IsBooting x s i n before told → i < n → o ≡ slice_get (intfs_of x.modules) i
-    → (intf : ℕ) × (o ≡ Some intf)
-boot-there x s i n o m within is =
-    let r = is-next s.modules i o (is ∙ ap (λ ms. slice_get (intfs_of ms) i) m.modules)
-    (subst (λ k. i < k) m.count within) in (r.module_there.intf, r.is)
+-- something is told of the part at a primary interface alone
+told-primary : (p : Plugged) (m : Span) → told_span p ≡ Some m
+    → (is_primary p ≡ true) × (m ≡ span_of p)
+told-primary p m e = by (is_primary p) refl e
+  where
+    by : (t : Bool) → is_primary p ≡ t → (if t then Some (span_of p) else None) ≡ Some m
+        → (is_primary p ≡ true) × (m ≡ span_of p)
+    by true is f = (is, sym (same-some (span_of p) m f))
+    by false is f = absurd cc
 
--- one more is told
-pub boot-more : (x y : Parties) (s : State) (i n intf : ℕ) {before : List Entry}
-    (told more : List Entry) (o : Option ℕ) → IsBooting x s i n before told → i < n
-    → o ≡ slice_get (intfs_of x.modules) i → o ≡ Some intf
-    → ((t : State) → PartsStand [] x t → Does y (tells_inserted intf) t told more)
+untold-other : (p : Plugged) → told_span p ≡ None → is_primary p ≡ false
+untold-other p e = by (is_primary p) refl e
+  where
+    by : (t : Bool) → is_primary p ≡ t → (if t then Some (span_of p) else None) ≡ None
+        → is_primary p ≡ false
+    by true is f = absurd cc
+    by false is f = is
+
+none-when : (o : Option Span) → ((m : Span) → o ≡ Some m → ⊥) → o ≡ None
+none-when None none = refl
+none-when (Some m) none = absurd (none m refl)
+
+-- the primary ones of parts with this one in front
+abbrev primaries_by : Bool → Plugged → List Plugged → List Plugged
+primaries_by t p ps = if t then p ∷ primaries ps else primaries ps
+
+primaries-next : (ms : List Plugged) (i : ℕ) (p : Plugged) (t : Bool)
+    → drop i ms ≡ p ∷ drop (suc i) ms → is_primary p ≡ t
+    → primaries (drop i ms) ≡ primaries_by t p (drop (i + 1) ms)
+primaries-next ms i p t next is =
+    ap primaries next ∙ ap (λ u. primaries_by u p (drop (suc i) ms)) is
+    ∙ ap (λ k. primaries_by t p (drop k ms)) (sym (add-one i))
+
+-- the module of one more is told
+pub boot-more : (x y : Parties) (s : State) (i n : ℕ) (m : Span) {before : List Entry}
+    (told more : List Entry) (o : Option Span) → IsBooting x s i n before told → i < n
+    → o ≡ option_and_then told_span (slice_get x.modules i) → o ≡ Some m
+    → ((t : State) → PartsStand [] x t → Does y (tells_inserted m.primary m.count) t told more)
     → IsBooting y s (i + 1) n before more
 unfolding machine_opened
-boot-more x y s i n intf told more o m within is some told_so =
-    let r = is-next s.modules i o (is ∙ ap (λ ms. slice_get (intfs_of ms) i) m.modules)
-    (subst (λ k. i < k) m.count within) in
-    let p = r.module_there in
-    let same : intf ≡ p.intf = cc (some, r.is) in
-    let state = m.midway.state in
-    let d = subst (λ k. Does y (tells_inserted k) state told more) same
-    (told_so state m.midway.stand) in record {
-      midway = midway-next tells s.modules i p
-          (r.next ∙ ap (λ k. p ∷ drop k s.modules) (sym (add-one i))) m.midway d;
+boot-more x y s i n m told more o b within is some told_so =
+    let r = is-next s.modules i o
+    (is ∙ ap (λ ms. option_and_then told_span (slice_get ms i)) b.modules)
+    (subst (λ k. i < k) b.count within) in
+    let p = r.part in
+    let first = told-primary p m (sym r.is ∙ some) in
+    let state = b.midway.state in
+    let rest = primaries (drop (i + 1) s.modules) in
+    let d = subst (λ (k : Span). Does y (tells_inserted k.primary k.count) state told more) first.1
+    (told_so state b.midway.stand) in record {
+      midway = midway-more (tells p) (each rest tells)
+          (midway-as (tells p ▸ each rest tells)
+          (ap (λ l. each l tells) (primaries-next s.modules i p true r.next first.0)
+          ∙ each-cons p rest tells) b.midway) d;
       modules = sym d.stand.modules
-          ∙ far_asks-modules 1 (svc_own (SvcAsk.ModuleInserted p.intf 1 0)) state
-          ∙ m.midway.stand.modules ∙ m.modules;
-      count = m.count;
+          ∙ far_asks-modules 1 (svc_own (SvcAsk.ModuleInserted p.primary p.count 0)) state
+          ∙ b.midway.stand.modules ∙ b.modules;
+      count = b.count;
+    }
+
+-- one that isn't at its primary interface is passed over
+pub boot-past : (x : Parties) (s : State) (i n : ℕ) {before told : List Entry} (o : Option Span)
+    → IsBooting x s i n before told → i < n
+    → o ≡ option_and_then told_span (slice_get x.modules i)
+    → ((m : Span) → o ≡ Some m → ⊥) → IsBooting x s (i + 1) n before told
+boot-past x s i n o b within is none =
+    let r = is-next s.modules i o
+    (is ∙ ap (λ ms. option_and_then told_span (slice_get ms i)) b.modules)
+    (subst (λ k. i < k) b.count within) in
+    let other = untold-other r.part (sym r.is ∙ none-when o none) in record {
+      midway = midway-as (each (primaries (drop (i + 1) s.modules)) tells)
+          (ap (λ l. each l tells) (primaries-next s.modules i r.part false r.next other)) b.midway;
+      modules = b.modules;
+      count = b.count;
     }
 
 -- ---- the event
@@ -211,6 +260,7 @@ unfolding machine_opened greets
 boot-done x y s i n st booted m past = record {
   allowed = ap (λ b. first_met ((b, why.Occupied) ∷ [])) (st.parts.booted ∙ booted);
   done =
-      does-by_state boots_at
-      (midway-all tells s.modules i (subst (λ k. k ≤ i) m.count past) m.midway);
+      does-by_state boots_at (midway-end (midway-as nothing
+      (ap (λ ms. each (primaries ms) tells)
+      (drop_of_length-le s.modules (subst (λ k. k ≤ i) m.count past)) ∙ each-nil tells) m.midway));
 }

@@ -66,126 +66,116 @@ plugged-is x s i o t st at is =
     copied None = refl
     copied (Some m) = refl
 
+-- nothing is plugged at so many interfaces, so none of them has power
+pub free-spans : (s : State) (i count j : ℕ) → OfARun s → is_taken i count s ≡ false → i ≤ j
+    → j < i + count → is_powered j s.ports ≡ false
+free-spans s i zero j run free from to = absurd (omega (arith, from, to))
+free-spans s i (suc more) j run free from to =
+    by (is_plugged i s.modules) refl (cases_lt i j)
+  where
+    by : (t : Bool) → is_plugged i s.modules ≡ t → (i < j) ⊎ (j ≤ i)
+        → is_powered j s.ports ≡ false
+    by true there k =
+        absurd (not-both (is_taken i (suc more) s)
+        (ap (λ u. u || is_taken (i + 1) more s) there) free)
+    by false there (inl above) =
+        free-spans s (i + 1) more j run
+        (sym (ap (λ u. u || is_taken (i + 1) more s) there) ∙ free)
+        (omega (arith, above)) (omega (arith, to))
+    by false there (inr least) =
+        let same : i ≡ j = omega (arith, from, least) in
+        subst (λ k. is_powered k s.ports ≡ false) same (unpowered-there s i run there)
+
+-- whether something is there, by the code's answer
+pub taken-is : (x : Parties) (s : State) (i count : ℕ) (t : Bool) → PartsStand [] x s
+    → t ≡ list_any (λ j. is_plugged j x.modules) (span i count) → is_taken i count s ≡ t
+taken-is x s i count t st is =
+    ap (λ (ms : List Plugged). list_any (λ j. is_plugged j ms) (span i count)) st.modules ∙ sym is
+
 -- ---- what is told
 
 -- MODULE_INSERTED can be asked
-pub inserted-askable : (i : ℕ) → IsAskable 0x1f (i ∷ 1 ∷ 0 ∷ 0 ∷ [])
-inserted-askable i = (omega arith, omega arith)
+pub inserted-askable : (p count : ℕ) → IsAskable 0x1f (p ∷ count ∷ 0 ∷ 0 ∷ [])
+inserted-askable p count = (omega arith, omega arith)
 
 -- it is what the supervisory controller asks
-pub does-tells_inserted : {x : Parties} {s : State} {a b : List Entry} (i : ℕ)
-    → Does x (far_asks 1 (own_ask 0x1f (i ∷ 1 ∷ 0 ∷ 0 ∷ []) false)) s a b
-    → Does x (tells_inserted i) s a b
+pub does-tells_inserted : {x : Parties} {s : State} {a b : List Entry} (p count : ℕ)
+    → Does x (far_asks 1 (own_ask 0x1f (p ∷ count ∷ 0 ∷ 0 ∷ []) false)) s a b
+    → Does x (tells_inserted p count) s a b
 unfolding machine_opened
-does-tells_inserted i d = record { told_is = d.told_is; stand = d.stand }
+does-tells_inserted p count d = record { told_is = d.told_is; stand = d.stand }
 
--- ---- inserts
+-- ---- refusals
 
 -- the conditions that refuse an insert, as they are tried
-abbrev insert_conditions_by : Bool → Bool → Bool → List Condition
-insert_conditions_by occupied large spent =
-    (occupied, why.Occupied) ∷ (large, why.TooLarge) ∷ (spent, why.NoLabel) ∷ []
+abbrev insert_conditions_by : Bool → Bool → Bool → Bool → List Condition
+insert_conditions_by beyond taken large spent =
+    (beyond, why.OutOfRange) ∷ (taken, why.Occupied) ∷ (large, why.TooLarge)
+    ∷ (spent, why.NoLabel) ∷ []
 
--- a module is there
-pub insert-occupied : (s : State) (i : ℕ) (manifest : List ℕ) → is_plugged i s.modules ≡ true
-    → Some why.Occupied ≡ first_met (insert_conditions s i manifest)
-insert-occupied s i manifest there =
-    sym (ap (λ b. first_met (insert_conditions_by b
-    (nat_lt longest_manifest (length manifest)) (has_no_label 1 side.Far s))) there)
+-- they are the machine's
+conditions-are : (s : State) (i count : ℕ) (manifest : List ℕ) (beyond taken large : Bool)
+    → is_beyond i count ≡ beyond → is_taken i count s ≡ taken
+    → nat_lt longest_manifest (length manifest) ≡ large
+    → first_met (insert_conditions s i count manifest)
+    ≡ first_met (insert_conditions_by beyond taken large (has_no_label 1 side.Far s))
+conditions-are s i count manifest beyond taken large p q r =
+    ap (λ b. first_met (insert_conditions_by b (is_taken i count s)
+    (nat_lt longest_manifest (length manifest)) (has_no_label 1 side.Far s))) p
+    ∙ ap (λ b. first_met (insert_conditions_by beyond b
+    (nat_lt longest_manifest (length manifest)) (has_no_label 1 side.Far s))) q
+    ∙ ap (λ b. first_met (insert_conditions_by beyond taken b (has_no_label 1 side.Far s))) r
+
+-- it would reach beyond the last interface
+pub insert-beyond : (s : State) (i count : ℕ) (manifest : List ℕ) → is_beyond i count ≡ true
+    → Some why.OutOfRange ≡ first_met (insert_conditions s i count manifest)
+insert-beyond s i count manifest beyond =
+    sym (conditions-are s i count manifest true _ _ beyond refl refl)
+
+-- one of its interfaces is taken
+pub insert-occupied : (s : State) (i count : ℕ) (manifest : List ℕ) → is_beyond i count ≡ false
+    → is_taken i count s ≡ true
+    → Some why.Occupied ≡ first_met (insert_conditions s i count manifest)
+insert-occupied s i count manifest within taken =
+    sym (conditions-are s i count manifest false true _ within taken refl)
+
+-- its manifest is too long
+pub insert-large : (s : State) (i count size : ℕ) (manifest : List ℕ) → is_beyond i count ≡ false
+    → is_taken i count s ≡ false → length manifest ≡ size → longest_manifest < size
+    → Some why.TooLarge ≡ first_met (insert_conditions s i count manifest)
+insert-large s i count size manifest within free same large =
+    sym (conditions-are s i count manifest false false true within free
+    (less longest_manifest (length manifest) (omega (arith, same, large))))
+  where
+    less : (a b : ℕ) → a < b → nat_lt a b ≡ true
+    less a b below = grind (arith, nat_tests, below)
 
 -- an identifier is left or not
-pub insert-fits : (s : State) (i size : ℕ) (manifest : List ℕ) → is_plugged i s.modules ≡ false
-    → length manifest ≡ size → size ≤ longest_manifest
-    → first_met (insert_conditions s i manifest)
+pub insert-fits : (s : State) (i count size : ℕ) (manifest : List ℕ) → is_beyond i count ≡ false
+    → is_taken i count s ≡ false → length manifest ≡ size → size ≤ longest_manifest
+    → first_met (insert_conditions s i count manifest)
     ≡ first_met ((has_no_label 1 side.Far s, why.NoLabel) ∷ [])
-insert-fits s i size manifest there same fits =
-    ap (λ b. first_met (insert_conditions_by b
-    (nat_lt longest_manifest (length manifest)) (has_no_label 1 side.Far s))) there
-    ∙ ap (λ b. first_met (insert_conditions_by false b (has_no_label 1 side.Far s)))
+insert-fits s i count size manifest within free same fits =
+    conditions-are s i count manifest false false false within free
     (not-less longest_manifest (length manifest) (omega (arith, same, fits)))
   where
     not-less : (a b : ℕ) → b ≤ a → nat_lt a b ≡ false
     not-less a b most = grind (arith, nat_tests, most)
 
--- the parties stand for the state with the module
-pub plugged-stand : (x : Parties) (s : State) (i : ℕ) (modules : List Plugged) (m : Module)
-    (l : Ladder) → PartsStand [] x s → modules ≡ plugged i m x.modules
-    → length m.manifest ≤ most_payload → switch.Stands l (powered i s.ports)
-    → PartsStand [] (record x { modules = modules; ladder = l }) (with_plugged i m s)
-plugged-stand x s i modules m l st is short ports = record {
-  bus = st.bus;
-  ports = ports;
-  modules = ap (plugged i m) st.modules ∙ sym is;
-  host = st.host;
-  names = st.names;
-  apart = st.apart;
-  booted = st.booted;
-  sound = st.sound;
-  short = each-from IsShort (plugged i m s.modules)
-      (short-plugged i m s.modules (λ p k. each-in IsShort s.modules p st.short k) short);
-  time = st.time;
-  holds = st.holds;
-  held = st.held;
-}
-
--- it is plugged, where the supervisory controller has started
-pub plugs-told : {x y : Parties} {s : State} {a b : List Entry} (i : ℕ) (m : Module)
-    → PartsStand [] x (with_plugged i m s) → x.booted ≡ true
-    → ((t : State) → PartsStand [] x t → Does y (tells_inserted i) t a b)
-    → Does y (plugs i m) s a b
+-- An insert that isn't refused is done: by its kinds a module is plugged.
+pub inserted-kinds : (y : Parties) (s : State) (i : ℕ) (kinds : List Kind) (before es : List Entry)
+    → None ≡ first_met (insert_conditions s i (length kinds) [])
+    → Does y (plugs i (map module_of_kind kinds)) s before es
+    → IsDone y s (event.Insert i kinds) before es
 unfolding machine_opened
-plugs-told {s = s} i m st booted d =
-    does-by_state (λ t. change (with_plugged i m) ▸ when t.booted (tells_inserted i))
-    (does-then (does-change (with_plugged i m) st)
-    (does-when (tells_inserted i) (st.booted ∙ booted) (d (with_plugged i m s) st)))
-
--- and where it hasn't
-pub plugs-untold : {x : Parties} {s : State} {a : List Entry} (i : ℕ) (m : Module)
-    → PartsStand [] x (with_plugged i m s) → x.booted ≡ false → Does x (plugs i m) s a a
-unfolding machine_opened
-plugs-untold i m st booted =
-    does-by_state (λ t. change (with_plugged i m) ▸ when t.booted (tells_inserted i))
-    (does-then (does-change (with_plugged i m) st)
-    (does-unless (tells_inserted i) (st.booted ∙ booted) st))
-
--- An insert that isn't refused is done: by its event a module is plugged.
-inserted : (y : Parties) (s : State) (i : ℕ) (manifest : List ℕ) (m : Module) (e : Event)
-    (before es : List Entry) → OfARun s → does e s ≡ plugs i m s
-    → refusal s e ≡ first_met (insert_conditions s i manifest)
-    → None ≡ first_met (insert_conditions s i manifest) → length m.manifest ≤ most_payload
-    → (is_powered i s.ports ≡ false → length m.manifest ≤ most_payload
-    → Does y (plugs i m) s before es)
-    → IsDone y s e before es
-inserted y s i manifest m e before es run same by allowed short d = record {
-  allowed = by ∙ sym allowed;
-  done =
-      does-as (sym same)
-      (d (unpowered-there s i run (unmet (insert_conditions s i manifest) (sym allowed)).0) short);
-}
-
--- by its kind
-pub inserted-kind : (y : Parties) (s : State) (i : ℕ) (kind : Kind) (m : Module)
-    (before es : List Entry) → OfARun s → m ≡ module_of_kind kind
-    → None ≡ first_met (insert_conditions s i [])
-    → (is_powered i s.ports ≡ false → length m.manifest ≤ most_payload
-    → Does y (plugs i m) s before es)
-    → IsDone y s (event.Insert i kind) before es
-unfolding machine_opened
-inserted-kind y s i kind m before es run is allowed d =
-    inserted y s i [] m (event.Insert i kind) before es run
-    (ap (λ w. plugs i w s) (sym is)) refl allowed
-    (subst (λ (w : Module). length w.manifest ≤ most_payload) (sym is) (kind-short kind)) d
+inserted-kinds y s i kinds before es allowed d =
+    record { allowed = sym allowed; done = does-as refl d }
 
 -- by its manifest
-pub inserted-raw : (y : Parties) (s : State) (i : ℕ) (manifest : List ℕ) (m : Module)
-    (before es : List Entry) → OfARun s → m ≡ module_raw manifest
-    → None ≡ first_met (insert_conditions s i manifest)
-    → (is_powered i s.ports ≡ false → length m.manifest ≤ most_payload
-    → Does y (plugs i m) s before es)
+pub inserted-raw : (y : Parties) (s : State) (i : ℕ) (manifest : List ℕ) (before es : List Entry)
+    → None ≡ first_met (insert_conditions s i 1 manifest)
+    → Does y (plugs i (module_raw manifest ∷ [])) s before es
     → IsDone y s (event.InsertRaw i manifest) before es
 unfolding machine_opened
-inserted-raw y s i manifest m before es run is allowed d =
-    inserted y s i manifest m (event.InsertRaw i manifest) before es run
-    (ap (λ w. plugs i w s) (sym is)) refl allowed
-    (subst (λ (w : Module). length w.manifest ≤ most_payload) (sym is)
-    (raw-short s i manifest (sym allowed))) d
+inserted-raw y s i manifest before es allowed d =
+    record { allowed = sym allowed; done = does-as refl d }

@@ -31,6 +31,7 @@ pub mod NameOrders
 pub mod NamedRequests
 pub mod Notices
 pub mod Plugged
+pub mod Pluggings
 pub mod Pulls
 pub mod RawArrivals
 pub mod Replies

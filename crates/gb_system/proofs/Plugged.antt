@@ -1,4 +1,4 @@
--- Modules that are plugged, by their places.
+-- What is plugged, by its places.
 use Rattle.std.proofs.Common.{◌≡◌, ℕ, Bool, true, false, cond, Option, Some, None, List, [], ◌∷◌}
 use Rattle.std.proofs.Common.{option_map, suc, get_or, set, refl, sym, ap, ◌∙◌, subst}
 use Rattle.std.specs.Prelude.{nat_lt, Ok}
@@ -7,49 +7,52 @@ use Rattle.gb_base.specs.declared.served.Served.{Served}
 use Rattle.gb_formats.specs.Module.{Module}
 use Rattle.gb_formats.specs.ModuleSteps.{module_serve}
 use Rattle.gb_machine.proofs.Positions.{none-stands, standing}
-use Rattle.gb_machine.specs.Modules.{is_plugged_at, module_at, plugged, plugged_before}
-use Rattle.gb_machine.specs.Lists.{in_order}
+use Rattle.gb_machine.specs.Modules.{is_plugged_at, module_at, part_at, plugged, plugged_before}
+use Rattle.gb_machine.specs.Lists.{in_order, span}
 use Rattle.gb_machine.specs.State.{Plugged}
 use Rattle.gb_system.specs.Plugging.{ServesThere, place_behind}
 
--- a module goes in front of those at greater interfaces
-inserted : (i : ℕ) (m : Module) (ps : List Plugged)
-    → insert ps (place_behind i ps) (record { intf = i; body = m }) ≡ plugged i m ps
-inserted i m [] = refl
-inserted i m (p ∷ ps) = by (nat_lt i p.intf) (inserted i m ps)
+-- a part goes in front of those at greater interfaces
+inserted : (x : Plugged) (ps : List Plugged) → insert ps (place_behind x.intf ps) x ≡ plugged x ps
+inserted x [] = refl
+inserted x (p ∷ ps) = by (nat_lt x.intf p.intf) (inserted x ps)
   where
-    x : Plugged
-    x = record { intf = i; body = m }
-
-    by : (b : Bool) → insert ps (place_behind i ps) x ≡ in_order plugged_before x ps
-        → insert (p ∷ ps) (cond b 0 (suc (place_behind i ps))) x
+    by : (b : Bool) → insert ps (place_behind x.intf ps) x ≡ in_order plugged_before x ps
+        → insert (p ∷ ps) (cond b 0 (suc (place_behind x.intf ps))) x
         ≡ cond b (x ∷ p ∷ ps) (p ∷ in_order plugged_before x ps)
     by true later = refl
     by false later = ap (λ qs. p ∷ qs) later
 
 -- as code finds the place
-pub plugs : (i : ℕ) (m : Module) (ps items after : List Plugged) (n : ℕ)
-    → items ≡ ps → n ≡ place_behind i ps → after ≡ insert items n (record { intf = i; body = m })
-    → after ≡ plugged i m ps
-plugs i m ps items after n view first is =
-    is ∙ ap (λ l. insert l n (record { intf = i; body = m })) view
-    ∙ ap (λ k. insert ps k (record { intf = i; body = m })) first ∙ inserted i m ps
+pub plugs : (x : Plugged) (ps items after : List Plugged) (n : ℕ)
+    → items ≡ ps → n ≡ place_behind x.intf ps → after ≡ insert items n x → after ≡ plugged x ps
+plugs x ps items after n view first is =
+    is ∙ ap (λ l. insert l n x) view ∙ ap (λ k. insert ps k x) first ∙ inserted x ps
 
--- where none is plugged, there is no module
+-- where nothing is plugged, there is no part
+pub no-part : (i : ℕ) (ps : List Plugged) (o : Option ℕ)
+    → o ≡ position_from (is_plugged_at i) 0 ps → o ≡ None → part_at i ps ≡ None
+no-part i ps o first is = (none-stands (is_plugged_at i) ps (sym first ∙ is)).0
+
+-- the part at a place
+pub one-part : (i : ℕ) (ps zs : List Plugged) (o : Option ℕ) (n : ℕ) (x : Plugged)
+    → o ≡ position_from (is_plugged_at i) 0 ps → o ≡ Some n → zs ≡ ps → x ≡ get_or zs n x
+    → part_at i ps ≡ Some x
+one-part i ps zs o n x first is view at =
+    (standing (is_plugged_at i) ps n (sym first ∙ is)).found x
+    ∙ ap Some (sym (at ∙ ap (λ l. get_or l n x) view))
+
+-- where nothing is plugged, there is no module
 pub none-there : (i : ℕ) (ps : List Plugged) (o : Option ℕ)
     → o ≡ position_from (is_plugged_at i) 0 ps → o ≡ None → module_at i ps ≡ None
-none-there i ps o first is =
-    ap (option_map (λ (p : Plugged). p.body))
-    (none-stands (is_plugged_at i) ps (sym first ∙ is)).0
+none-there i ps o first is = ap (option_map (λ (p : Plugged). p.body)) (no-part i ps o first is)
 
 -- the module at a place
 pub one-there : (i : ℕ) (ps zs : List Plugged) (o : Option ℕ) (n : ℕ) (x : Plugged)
     → o ≡ position_from (is_plugged_at i) 0 ps → o ≡ Some n → zs ≡ ps → x ≡ get_or zs n x
     → module_at i ps ≡ Some x.body
 one-there i ps zs o n x first is view at =
-    ap (option_map (λ (p : Plugged). p.body))
-    ((standing (is_plugged_at i) ps n (sym first ∙ is)).found x
-    ∙ ap Some (sym (at ∙ ap (λ l. get_or l n x) view)))
+    ap (option_map (λ (p : Plugged). p.body)) (one-part i ps zs o n x first is view at)
 
 -- where none is plugged, none serves
 pub none-serves : (i cport kind : ℕ) (payload : List ℕ) (ps : List Plugged) (o : Option ℕ)
@@ -81,3 +84,24 @@ one-serves i cport kind payload ps zs o n b x y served first is view same at ans
           ∙ ap (λ (p : Plugged). record p { body = step.after }) (sym here))
           ∙ sym (stands.changed (λ p. record p { body = step.after }) x),
     )
+
+-- ---- the interfaces of a module
+
+-- those from one on are that one, and those from the next on
+pub span-next : (n count i : ℕ) → i < count
+    → span (n + i) (count - i) ≡ (n + i) ∷ span (n + (i + 1)) (count - (i + 1))
+span-next n count i below =
+    let more : count - i ≡ suc (count - (i + 1)) = omega (arith, below) in
+    let next : (n + i) + 1 ≡ n + (i + 1) = omega arith in
+    ap (span (n + i)) more ∙ ap (λ k. (n + i) ∷ span k (count - (i + 1))) next
+
+-- there are no more
+pub span-past : (n count i : ℕ) → count ≤ i → span (n + i) (count - i) ≡ []
+span-past n count i past =
+    let none : count - i ≡ 0 = omega (arith, past) in ap (span (n + i)) none
+
+-- there are all
+pub span-all : (n count : ℕ) → span (n + 0) (count - 0) ≡ span n count
+span-all n count =
+    let same : n + 0 ≡ n = omega arith in
+    let all : count - 0 ≡ count = omega arith in ap (λ k. span k (count - 0)) same ∙ ap (span n) all

@@ -65,32 +65,55 @@ refusal-is : (s : State) (i : ℕ) → refusal s (event.Pull i)
     ≡ pull_refusal (is_plugged i s.modules) (has_no_label 1 side.Far s)
 refusal-is s i = refl
 
--- no module is there
-pub pull-nothing : {x : Parties} (s : State) (i : ℕ) → PartiesStand x s
-    → is_plugged i s.modules ≡ false → IsRefused x s (event.Pull i) why.NoInterface
-pull-nothing s i st there = record {
-  refused = refusal-is s i ∙ ap (λ b. pull_refusal b (has_no_label 1 side.Far s)) there;
+refusal-by : (s : State) (i : ℕ) (there : Bool) → is_plugged i s.modules ≡ there
+    → refusal s (event.Pull i) ≡ pull_refusal there (has_no_label 1 side.Far s)
+refusal-by s i there is =
+    refusal-is s i ∙ ap (λ b. pull_refusal b (has_no_label 1 side.Far s)) is
+
+-- what the code found is a part that is plugged there
+pub record IsPart (s : State) (i : ℕ) (m : Span) : Type 0 where
+  pub part : Plugged
+  pub is : part_at i s.modules ≡ Some part
+  pub span_is : m ≡ span_of part
+
+-- by its answer
+pub part-is : {x : Parties} (s : State) (i : ℕ) (o : Option Span) (m : Span) → PartsStand [] x s
+    → o ≡ option_map span_of (part_at i x.modules) → o ≡ Some m → IsPart s i m
+part-is {x} s i o m st is some = by (part_at i s.modules) refl
+    (sym some ∙ is ∙ ap (λ (ms : List Plugged). option_map span_of (part_at i ms)) (sym st.modules))
+  where
+    by : (q : Option Plugged) → part_at i s.modules ≡ q → Some m ≡ option_map span_of q
+        → IsPart s i m
+    by None e f = absurd cc
+    by (Some p) e f = record { part = p; is = e; span_is = same-some m (span_of p) f }
+
+plugged-part : {s : State} {i : ℕ} {m : Span} → IsPart s i m → is_plugged i s.modules ≡ true
+plugged-part f = ap (λ q. is_some (option_map (λ (p : Plugged). p.body) q)) f.is
+
+-- nothing is plugged there
+pub pull-nothing : {x : Parties} (s : State) (i : ℕ) (o : Option Span) → PartiesStand x s
+    → o ≡ option_map span_of (part_at i x.modules) → o ≡ None
+    → IsRefused x s (event.Pull i) why.NoInterface
+pull-nothing {x} s i o st is none = record {
+  refused = refusal-by s i false (by (part_at i s.modules) refl (sym none ∙ is
+      ∙ ap (λ (ms : List Plugged). option_map span_of (part_at i ms)) (sym st.parts.modules)));
   stand = st.parts;
 }
+  where
+    by : (q : Option Plugged) → part_at i s.modules ≡ q → None ≡ option_map span_of q
+        → is_plugged i s.modules ≡ false
+    by None e f = ap (λ q. is_some (option_map (λ (p : Plugged). p.body) q)) e
+    by (Some p) e f = absurd cc
 
 -- no identifier is left
-pub pull-spent : {x : Parties} (s : State) (i : ℕ) → PartiesStand x s
-    → is_plugged i s.modules ≡ true → has_no_label 1 side.Far s ≡ true
-    → IsRefused x s (event.Pull i) why.NoLabel
-pull-spent s i st there spent = record {
-  refused =
-      refusal-is s i ∙ ap (λ b. pull_refusal b (has_no_label 1 side.Far s)) there
-      ∙ ap (pull_refusal true) spent;
+pub pull-spent : {x : Parties} (s : State) (i : ℕ) (m : Span) → PartiesStand x s → IsPart s i m
+    → has_no_label 1 side.Far s ≡ true → IsRefused x s (event.Pull i) why.NoLabel
+pull-spent s i m st f spent = record {
+  refused = refusal-by s i true (plugged-part f) ∙ ap (pull_refusal true) spent;
   stand = st.parts;
 }
 
-pull-allowed : (s : State) (i : ℕ) → is_plugged i s.modules ≡ true
-    → has_no_label 1 side.Far s ≡ false → refusal s (event.Pull i) ≡ None
-pull-allowed s i there spent =
-    refusal-is s i ∙ ap (λ b. pull_refusal b (has_no_label 1 side.Far s)) there
-    ∙ ap (pull_refusal true) spent
-
--- ---- pulls
+-- ---- one interface
 
 -- the state once these connections are unwired
 abbrev after_unwiring : List ℕ → State → State
@@ -103,7 +126,7 @@ unfolding machine_opened
 unwiring-booted [] s = refl
 unwiring-booted (n ∷ ns) s = unwiring-booted ns (with_unwired n s)
 
--- the parties stand for the state without the module
+-- the parties stand for the state where nothing is plugged there
 pulled-stand : (x : Parties) (t : State) (i : ℕ) (modules : List Plugged) (l : Ladder)
     → PartsStand [] x t → modules ≡ unplugged i x.modules → switch.Stands l (unpowered i t.ports)
     → PartsStand [] (record x { modules = modules; ladder = l }) (with_pulled i t)
@@ -122,90 +145,125 @@ pulled-stand x t i modules l st is ports = record {
   held = st.held;
 }
 
--- what a pull does at a state
-abbrev pulls_at : ℕ → State → Action
-pulls_at i s =
-    each (wired_numbers i s.bus) unwires ▸ change (with_pulled i)
-    ▸ when s.booted (tells_removed i)
-
--- it is done by its parts
-does-pulled : {x y z : Parties} {s : State} (i : ℕ) {a b c : List Entry}
-    → Does x (each (wired_numbers i s.bus) unwires) s a b
-    → PartsStand [] y (with_pulled i (after_unwiring (wired_numbers i s.bus) s))
-    → Does z (when s.booted (tells_removed i))
-    (with_pulled i (after_unwiring (wired_numbers i s.bus) s)) b c
-    → Does z (does (event.Pull i)) s a c
+-- What is unwired are all connections of the interface.
+pub pulled-one : (x : Parties) (s : State) (i : ℕ) (modules : List Plugged) (l : Ladder)
+    (before told : List Entry) → Does x (each (wired_numbers i s.bus) unwires) s before told
+    → modules ≡ unplugged i x.modules
+    → switch.Stands l (unpowered i (after_unwiring (wired_numbers i s.bus) s).ports)
+    → Does (record x { modules = modules; ladder = l }) (pulls_one i) s before told
 unfolding machine_opened
-does-pulled {x} {y} {z} {s} i d st e =
-    does-by_state (pulls_at i) (does-then (does-then d (does-change (with_pulled i) st)) e)
+pulled-one x s i modules l before told d is ports =
+    does-by_state (λ t. each (wired_numbers i t.bus) unwires ▸ change (with_pulled i))
+    (does-then d (does-change (with_pulled i)
+    (pulled-stand x (after_unwiring (wired_numbers i s.bus) s) i modules l d.stand is ports)))
+
+-- whether the supervisory controller has started is no matter of it
+pulling-booted : (is : List ℕ) (s : State) → (each is pulls_one s).state.booted ≡ s.booted
+unfolding machine_opened
+pulling-booted [] s = refl
+pulling-booted (i ∷ is) s =
+    pulling-booted is (with_pulled i (after_unwiring (wired_numbers i s.bus) s))
+    ∙ unwiring-booted (wired_numbers i s.bus) s
+
+-- ---- what is told
 
 -- which pulls are remembered is no matter of the parties
-recalled-stand : {x : Parties} (n i : ℕ) (s : State) → PartsStand [] x s
-    → PartsStand [] x (recalled n i s)
-recalled-stand {x} n i s st = by (is_some (request_of n s.bus))
+recalled-stand : {x : Parties} (n : ℕ) (all : List ℕ) (s : State) → PartsStand [] x s
+    → PartsStand [] x (recalled n all s)
+recalled-stand {x} n all s st = by (is_some (request_of n s.bus))
   where
-    by : (t : Bool) → PartsStand [] x (cond t (with_told n i s) s)
-    by true = repast (record s.past { pulled = s.past.pulled ++ (n, i) ∷ [] }) st
+    by : (t : Bool) → PartsStand [] x (cond t (with_told n all s) s)
+    by true = repast (record s.past { pulled = s.past.pulled ++ map (λ i. (n, i)) all }) st
     by false = st
 
 -- MODULE_REMOVED is what the supervisory controller asks
-does-svc_removed : {x : Parties} {s : State} {a b : List Entry} (i : ℕ)
-    → Does x (far_asks 1 (own_ask 0x20 (i ∷ []) false)) s a b
-    → Does x (svc_asks (SvcAsk.ModuleRemoved i)) s a b
+does-svc_removed : {x : Parties} {s : State} {a b : List Entry} (p : ℕ)
+    → Does x (far_asks 1 (own_ask 0x20 (p ∷ []) false)) s a b
+    → Does x (svc_asks (SvcAsk.ModuleRemoved p)) s a b
 unfolding machine_opened
-does-svc_removed i d = record { told_is = d.told_is; stand = d.stand }
+does-svc_removed p d = record { told_is = d.told_is; stand = d.stand }
 
 -- and it is remembered
-pub does-removed : {x : Parties} {s : State} {a b : List Entry} (i : ℕ)
-    → Does x (far_asks 1 (own_ask 0x20 (i ∷ []) false)) s a b → Does x (tells_removed i) s a b
+pub does-removed : {x : Parties} {s : State} {a b : List Entry} (p : ℕ) (all : List ℕ)
+    → Does x (far_asks 1 (own_ask 0x20 (p ∷ []) false)) s a b → Does x (tells_removed p all) s a b
 unfolding machine_opened
-does-removed {x} {s} i d =
-    let e = does-svc_removed i d in
-    does-by_state (λ t. svc_asks (SvcAsk.ModuleRemoved i)
-    ▸ change (recalled (next_number t.bus) i))
-    (does-then e (does-change (recalled (next_number s.bus) i)
-    (recalled-stand (next_number s.bus) i (svc_asks (SvcAsk.ModuleRemoved i) s).state e.stand)))
+does-removed {x} {s} p all d =
+    let e = does-svc_removed p d in
+    does-by_state (λ t. svc_asks (SvcAsk.ModuleRemoved p)
+    ▸ change (recalled (next_number t.bus) all))
+    (does-then e (does-change (recalled (next_number s.bus) all)
+    (recalled-stand (next_number s.bus) all (svc_asks (SvcAsk.ModuleRemoved p) s).state e.stand)))
 
-pub removed-askable : (i : ℕ) → IsAskable 0x20 (i ∷ [])
-removed-askable i = (omega arith, omega arith)
+pub removed-askable : (p : ℕ) → IsAskable 0x20 (p ∷ [])
+removed-askable p = (omega arith, omega arith)
 
--- A module is pulled: what is unwired are all connections of its interface.
-pub record Pulling (x y : Parties) (s : State) (i : ℕ) (before told : List Entry) : Type 0 where
-  pub there : is_plugged i s.modules ≡ true
-  pub spent : has_no_label 1 side.Far s ≡ false
-  pub unwired : Does x (each (wired_numbers i s.bus) unwires) s before told
-  pub modules : y.modules ≡ unplugged i x.modules
-  pub ports : switch.Stands y.ladder
-      (unpowered i (after_unwiring (wired_numbers i s.bus) s).ports)
-  pub rest : y ≡ record x { modules = y.modules; ladder = y.ladder }
+-- ---- the module
 
--- the parties stand for it
-pulling-stand : {x y : Parties} {s : State} {i : ℕ} {before told : List Entry}
-    → Pulling x y s i before told
-    → PartsStand [] y (with_pulled i (after_unwiring (wired_numbers i s.bus) s))
-pulling-stand {x} {y} {s} {i} p =
-    subst (λ (w : Parties). PartsStand [] w
-    (with_pulled i (after_unwiring (wired_numbers i s.bus) s))) (sym p.rest)
-    (pulled-stand x (after_unwiring (wired_numbers i s.bus) s) i y.modules y.ladder
-    p.unwired.stand p.modules p.ports)
+-- The interfaces of a module are pulled one after another; those from one on are left.
+abbrev pub IsPulling : Parties → State → ℕ → ℕ → ℕ → List Entry → List Entry → Type 0
+IsPulling x s primary count i before told =
+    Midway x (each (span primary count) pulls_one)
+    (each (span (primary + i) (count - i)) pulls_one) s before told
 
--- whether the supervisory controller has started is no matter of the pull
-pulled-booted : (i : ℕ) (s : State)
-    → (with_pulled i (after_unwiring (wired_numbers i s.bus) s)).booted ≡ s.booted
-unfolding machine_opened
-pulled-booted i s = unwiring-booted (wired_numbers i s.bus) s
+-- at first all are
+pub pulling-first : {x : Parties} {s : State} {told : List Entry} (primary count : ℕ)
+    → PartsStand [] x s → IsPulling x s primary count 0 told told
+pulling-first primary count st =
+    midway-as _ (ap (λ is. each is pulls_one) (sym (span-all primary count)))
+    (midway-first (each (span primary count) pulls_one) st)
+
+-- one more is pulled
+pub pulling-next : {x y : Parties} {s : State} {before a b : List Entry} (primary count i : ℕ)
+    → i < count → (m : IsPulling x s primary count i before a)
+    → ((t : State) → PartsStand [] x t → Does y (pulls_one (primary + i)) t a b)
+    → IsPulling y s primary count (i + 1) before b
+pulling-next primary count i below m pulled =
+    let rest = span (primary + (i + 1)) (count - (i + 1)) in
+    midway-more (pulls_one (primary + i)) (each rest pulls_one)
+    (midway-as (pulls_one (primary + i) ▸ each rest pulls_one)
+    (ap (λ is. each is pulls_one) (span-next primary count i below)
+    ∙ each-cons (primary + i) rest pulls_one) m) (pulled m.state m.stand)
+
+-- all are
+pulling-end : {x : Parties} {s : State} {before told : List Entry} (primary count i : ℕ)
+    → count ≤ i → IsPulling x s primary count i before told
+    → Does x (each (span primary count) pulls_one) s before told
+pulling-end primary count i past m =
+    midway-end (midway-as nothing
+    (ap (λ is. each is pulls_one) (span-past primary count i past) ∙ each-nil pulls_one) m)
 
 -- MODULE_REMOVED goes where the supervisory controller has started
-pub pull-done : (x y z : Parties) (s : State) (i : ℕ) (before told es : List Entry)
-    → Pulling x y s i before told
-    → ((t : State) → PartsStand [] y t
-    → Does z (when t.booted (tells_removed i)) t told es)
+pub pull-done : (x z : Parties) (s : State) (i : ℕ) (m : Span) (j : ℕ)
+    (before told es : List Entry) → IsPart s i m → has_no_label 1 side.Far s ≡ false → m.count ≤ j
+    → IsPulling x s m.primary m.count j before told
+    → ((t : State) (all : List ℕ) → PartsStand [] x t
+    → Does z (when t.booted (tells_removed m.primary all)) t told es)
     → IsDone z s (event.Pull i) before es
-pull-done x y z s i before told es p removed =
-    let t = with_pulled i (after_unwiring (wired_numbers i s.bus) s) in record {
-      allowed = pull-allowed s i p.there p.spent;
-      done =
-          does-pulled i p.unwired (pulling-stand p)
-          (subst (λ b. Does z (when b (tells_removed i)) t told es)
-          (pulled-booted i s) (removed t (pulling-stand p)));
-    }
+unfolding machine_opened
+pull-done x z s i m j before told es f spent past pulling removed = record {
+  allowed = refusal-by s i true (plugged-part f) ∙ ap (pull_refusal true) spent;
+  done = does-by_state (λ t. given (part_at i t.modules) pulls_module)
+      (does-given pulls_module f.part f.is (does-by_state (pulls_at f.part) (does-then pulled
+      (subst (λ b. Does z (when b (tells_removed p.primary all)) mid told es)
+      (pulling-booted all s)
+      (subst (λ (k : Span). Does z (when mid.booted (tells_removed k.primary all)) mid told es)
+      f.span_is (removed mid all pulled.stand))))));
+}
+  where
+    p : Plugged
+    p = f.part
+
+    all : List ℕ
+    all = interfaces_of p
+
+    mid : State
+    mid = (each all pulls_one s).state
+
+    pulls_at : Plugged → State → Action
+    pulls_at q t =
+        each (interfaces_of q) pulls_one ▸ when t.booted (tells_removed q.primary (interfaces_of q))
+
+    pulled : Does x (each all pulls_one) s before told
+    pulled =
+        subst (λ (k : Span). Does x (each (span k.primary k.count) pulls_one) s before told)
+        f.span_is (pulling-end m.primary m.count j past pulling)

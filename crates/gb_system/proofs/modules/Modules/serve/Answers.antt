@@ -11,7 +11,12 @@ returns-in_default c =
 
 pub returns : goal.returns
 returns c =
-    let x : Plugged = record { intf = c.plugged.inside.intf; body = c.plugged.inside.body } in
+    let x : Plugged = record {
+      intf = c.plugged.inside.intf;
+      primary = c.plugged.inside.primary;
+      count = c.plugged.inside.count;
+      body = c.plugged.inside.body;
+    } in
     one-serves c.args.intf c.args.cport c.args.kind c.args.payload.now c.args.self.now
     c.self.inside.plugged.items c.place.result c.in-Some.i c.index_mut-plugged.result.now x
     (record x { body = c.serve.new.self }) c.in_ok-served.served c.place.ensures.first

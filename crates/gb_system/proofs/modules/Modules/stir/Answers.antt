@@ -15,7 +15,12 @@ returns-in_default c =
 
 pub returns-in_err-own : goal.returns-in_err-own
 returns-in_err-own c =
-    let x : Plugged = record { intf = c.plugged.inside.intf; body = c.plugged.inside.body } in
+    let x : Plugged = record {
+      intf = c.plugged.inside.intf;
+      primary = c.plugged.inside.primary;
+      count = c.plugged.inside.count;
+      body = c.plugged.inside.body;
+    } in
     let p = err_from_is_err_and c.from_residual.result c.from_residual.ensures.1 in
     subst (λ r. StirsThere c.args.intf c.args.cport (stir_of c.args.what)
     (module_at c.args.intf c.args.self.now) c.args.self.now
@@ -28,7 +33,12 @@ returns-in_err-own c =
 
 pub returns : goal.returns
 returns c =
-    let x : Plugged = record { intf = c.plugged.inside.intf; body = c.plugged.inside.body } in
+    let x : Plugged = record {
+      intf = c.plugged.inside.intf;
+      primary = c.plugged.inside.primary;
+      count = c.plugged.inside.count;
+      body = c.plugged.inside.body;
+    } in
     one-stirs c.args.intf c.args.cport (stir_of c.args.what) c.args.self.now
     c.self.inside.plugged.items c.place.result c.in-Some.i c.index_mut-plugged.result.now x
     c.stir.new.self (Ok c.in_ok-own.own) c.place.ensures.first c.in-Some.is c.self.view_is

@@ -2,7 +2,7 @@
 use Rattle.std.proofs.Common.{List, sym, subst}
 use Rattle.gb_base.specs.declared.entry.Entry.{Entry}
 use Rattle.gb_system.proofs.Boots.{IsBooting, boot-again, boot-done, boot-first, boot-more}
-use Rattle.gb_system.proofs.Boots.{boot-there}
+use Rattle.gb_system.proofs.Boots.{boot-past}
 use Rattle.gb_system.specs.declared.parties.Parties.{Parties}
 use Rattle.gb_system.proofs.parties.Parties.boot.Goals.{in-Some+in_ok-tell_inserted, in_default}
 use Rattle.gb_system.proofs.parties.Parties.boot.Goals as goal
@@ -22,20 +22,19 @@ loop-i-init c = λ s st.
 pub loop-i-preserved : goal.loop-i-preserved
 loop-i-preserved c = λ s st.
     let m = c.loop-i.invariant s st in
-    elim c.match-intf_at.branch [
+    elim c.match-told_at.branch [
       | in-Some+in_ok-tell_inserted w ↦
           subst (λ (x : Parties). IsBooting x s _ c.count-i-end.result c.args.told.now
-          c.match-intf_at.told)
+          c.match-told_at.told)
           (sym w.self-is)
           (subst (λ (es : List Entry). IsBooting w.tell_inserted.new.self s _
           c.count-i-end.result c.args.told.now es) (sym w.told-is)
           (boot-more c.loop-i.self w.tell_inserted.new.self s c.loop-i.i c.count-i-end.result
-          w.in-Some.intf c.loop-i.told w.tell_inserted.new.told c.intf_at.result m
-          c.loop-i-test.true c.intf_at.ensures w.in-Some.is w.in_ok-tell_inserted.ensures.step))
+          w.in-Some.span c.loop-i.told w.tell_inserted.new.told c.told_at.result m
+          c.loop-i-test.true c.told_at.ensures w.in-Some.is w.in_ok-tell_inserted.ensures.step))
       | in_default w ↦
-          let there = boot-there c.loop-i.self s c.loop-i.i c.count-i-end.result
-          c.intf_at.result m c.loop-i-test.true c.intf_at.ensures in
-          absurd (w.in_default.not-Some there.0 there.1)
+          boot-past c.loop-i.self s c.loop-i.i c.count-i-end.result c.told_at.result m
+          c.loop-i-test.true c.told_at.ensures w.in_default.not-Some
     ]
 
 pub returns : goal.returns

@@ -1,13 +1,9 @@
--- The connections that were unwired so far, and those that are left.
-use Rattle.std.proofs.Common.{drop}
-use Rattle.gb_machine.specs.Actions.{each}
+-- The interfaces that were pulled so far, and those that are left.
 use Rattle.gb_machine.specs.State.{State}
-use Rattle.gb_machine.specs.Wires.{unwires}
-use Rattle.gb_system.proofs.Midways.{Midway}
+use Rattle.gb_system.proofs.Pulls.{IsPulling}
 use Rattle.gb_system.specs.Stands.{PartiesStand}
 use Rattle.gb_system.proofs.parties.Parties.pull.Given as goal
 
-abbrev pub invariant-loop-connection : goal.invariant-loop-connection
-invariant-loop-connection l = (s : State) → PartiesStand l.fn.self s
-    → Midway l.self (each l.connection-items unwires)
-    (each (drop l.connection-index l.connection-items) unwires) s l.initial.told l.told
+abbrev pub invariant-loop-i : goal.invariant-loop-i
+invariant-loop-i l = (s : State) → PartiesStand l.fn.self s
+    → IsPulling l.self s l.span.primary l.span.count l.i l.fn.told l.told

@@ -7,14 +7,14 @@ use Rattle.gb_system.proofs.parties.Parties.tell_removed.Goals as goal
 
 pub returns-in_ok-svc_ask : goal.returns-in_ok-svc_ask
 returns-in_ok-svc_ask c = record {
-  step = λ s st.
-      does-when (tells_removed c.args.intf) (st.booted ∙ c.if-self.true)
-      (does-removed c.args.intf
-      (c.in_ok-svc_ask.ensures.step s st (removed-askable c.args.intf)));
+  step = λ s all st.
+      does-when (tells_removed c.args.primary all) (st.booted ∙ c.if-self.true)
+      (does-removed c.args.primary all
+      (c.in_ok-svc_ask.ensures.step s st (removed-askable c.args.primary)));
 }
 
 pub returns-else-self : goal.returns-else-self
 returns-else-self c = record {
-  step = λ s st.
-      does-unless (tells_removed c.args.intf) (st.booted ∙ c.if-self.false) st;
+  step = λ s all st.
+      does-unless (tells_removed c.args.primary all) (st.booted ∙ c.if-self.false) st;
 }
