@@ -7,7 +7,7 @@ ghost use Rattle.gb_formats.specs.ValidEvents.{IsValid};
 ghost use Rattle.gb_machine.specs.AskingEvents.{asks};
 
 use crate::desk::{history, opened};
-use gb_base::{End, Event, Journal, Kind};
+use gb_base::{End, Event, Journal, Kind, Kinds};
 use gb_desk::{Desk, DeskFault, Pass};
 use std::alloc::Global;
 use std::process::Abort;
@@ -29,7 +29,7 @@ fn event(at: u32) -> Event
         0 => Event::Boot,
         1 => Event::Insert {
             intf: 2,
-            kind: Kind::Uart,
+            kinds: Kinds::one(Kind::Uart),
         },
         2 => Event::Settle { most: 2 },
         3 => Event::Deliver { at: End::Svc },

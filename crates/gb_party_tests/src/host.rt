@@ -4,20 +4,20 @@ use gb_base::{Entry, HostEvent, IntfStage, Purpose, Refusal, SequenceStep};
 use gb_host::{Act, Host};
 use std::process::Abort;
 
-/// A request of the supervisory controller: its type and payload, what is answered, and the
-/// interface that is inserted then, 0 for none.
-type Row<'a> = (u8, &'a [u8], u8, &'a [u8], u8);
+/// A request of the supervisory controller: its type and payload, what is answered, and the primary
+/// interface and the count of what is inserted then, zeros for nothing.
+type Row<'a> = (u8, &'a [u8], u8, &'a [u8], (u8, u8));
 
 /// Requests with what they are answered.
 const REQUESTS: [Row; 8] = [
-    (0x01, &[0, 1], 0x00, &[0, 1], 0),
-    (0x02, &[1, 0, 1], 0x00, &[], 0),
-    (0x1f, &[2, 1, 0, 0], 0x00, &[], 2),
-    (0x20, &[2], 0x00, &[], 0),
-    (0x20, &[], 0x06, &[], 0),
-    (0x1f, &[2, 1, 0], 0x06, &[], 0),
-    (0x13, &[], 0x04, &[], 0),
-    (0x7f, &[], 0x04, &[], 0),
+    (0x01, &[0, 1], 0x00, &[0, 1], (0, 0)),
+    (0x02, &[1, 0, 1], 0x00, &[], (0, 0)),
+    (0x1f, &[2, 3, 0, 0], 0x00, &[], (2, 3)),
+    (0x20, &[2], 0x00, &[], (0, 0)),
+    (0x20, &[], 0x06, &[], (0, 0)),
+    (0x1f, &[2, 1, 0], 0x06, &[], (0, 0)),
+    (0x13, &[], 0x04, &[], (0, 0)),
+    (0x7f, &[], 0x04, &[], (0, 0)),
 ];
 
 /// A request of the supervisory controller is answered so.
@@ -26,11 +26,11 @@ fn serves(rt: &impl Abort, host: &mut Host, row: &Row) {
     let served = host.serve(1, kind, payload).expect(rt, "memory");
     let answer = (served.result, served.payload.items());
     assert!(rt; answer == (code, told), "type {kind}");
-    let intf = match served.then {
-        Some(HostEvent::Inserted { intf }) => intf,
-        _ => 0,
+    let module = match served.then {
+        Some(HostEvent::Inserted { primary, count }) => (primary, count),
+        _ => (0, 0),
     };
-    assert!(rt; intf == inserted);
+    assert!(rt; module == inserted);
 }
 
 /// No identifier was left for this step at interface 2, which is told to have failed.

@@ -9,7 +9,8 @@ use std::process::Abort;
 /// What the application processor takes notice of.
 #[derive(Clone, Copy)]
 enum What<'a> {
-    In(u8),
+    /// A module with its primary interface and their number.
+    In(u8, u8),
     Out(u8),
     Connect(u8, u16),
     Close(u8, u16),
@@ -46,7 +47,7 @@ const NEWER: &[u8] = b"\x48\0\x01\x01\
 
 /// An enumeration, a connection that is made and closed, and a removal.
 const STEPS: &[(What, &str)] = &[
-    (In(2), "intf 2 enumerating;ask 1 33 [2];"),
+    (In(2, 1), "intf 2 enumerating;ask 1 33 [2];"),
     (Answer(0, &[0]), "ask 1 35 [2];"),
     (Answer(0, &[0]), "ask 1 37 [2];"),
     (Answer(0, &[0]), "ask 1 39 [2];"),
@@ -75,6 +76,11 @@ const STEPS: &[(What, &str)] = &[
 
 /// After so many steps, what comes in place of the next, and what is done then.
 const OTHERWISE: &[(usize, What, &str)] = &[
+    (
+        0,
+        In(2, 2),
+        "intf 2 enumerating;ask 1 33 [2];intf 3 enumerating;ask 1 33 [3];",
+    ),
     (1, Answer(0, &[1]), "intf 2 failed;"),
     (1, Late, "intf 2 failed;"),
     (2, Answer(6, &[]), "intf 2 failed;"),
@@ -117,8 +123,8 @@ fn first_play(rt: &impl Abort, alloc: Global) -> Play {
 /// What is taken notice of, where the last request has this number.
 fn event(rt: &impl Abort, alloc: Global, number: u64, what: What<'_>) -> HostEvent {
     match what {
-        In(intf) => HostEvent::Inserted { intf },
-        Out(intf) => HostEvent::Removed { intf },
+        In(primary, count) => HostEvent::Inserted { primary, count },
+        Out(primary) => HostEvent::Removed { primary },
         Connect(intf, cport) => HostEvent::Connect { intf, cport },
         Close(intf, cport) => HostEvent::Disconnect { intf, cport },
         Drain(intf, cport) => HostEvent::Drain { intf, cport },

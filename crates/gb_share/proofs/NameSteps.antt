@@ -121,7 +121,7 @@ names_done : (s : State) (e : Event) → IsValid e → refusal s e ≡ None
     → (does e s).state.names ≡ renamed s e
 unfolding does change
 names_done s event.Boot valid allowed = keeps_boots s
-names_done s (event.Insert i kind) valid allowed = keeps_plugs i _ s
+names_done s (event.Insert i kinds) valid allowed = keeps_plugs i _ s
 names_done s (event.InsertRaw i manifest) valid allowed = keeps_plugs i _ s
 names_done s (event.Pull i) valid allowed = keeps_pulls i s
 names_done s (event.Connect i c) valid allowed = keeps_notices _ s

@@ -23,7 +23,8 @@ use Rattle.gb_machine.specs.HostActs.{host_opens, idles, idles_behind, made_for,
 use Rattle.gb_machine.specs.HostActs.{opened_with, turns, with_awaited}
 use Rattle.gb_machine.specs.LineActions.{stirred, stirs}
 use Rattle.gb_machine.specs.OwnAsking.{far_asks, far_asks_all, svc_asks}
-use Rattle.gb_machine.specs.Plugging.{boots, plugs, pulls, recalled, tells_inserted, tells_removed}
+use Rattle.gb_machine.specs.Plugging.{boots, plugs, pulls, pulls_module, pulls_one, recalled}
+use Rattle.gb_machine.specs.Plugging.{tells_inserted, tells_removed}
 use Rattle.gb_machine.specs.Plugging.{with_told}
 use Rattle.gb_machine.specs.Sending.{Draft}
 use Rattle.gb_machine.specs.SequenceSteps.{is_for_connection}
@@ -232,26 +233,40 @@ keeps_boots =
     (keeps_svc_asks _)) (keeps_svc_asks _))
     (keeps_each _ _ (λ p. keeps_svc_asks _)))
 
-pub keeps_plugs : (i : ℕ) (m : Module) → Keeps (plugs i m)
+pub keeps_plugs : (i : ℕ) (ms : List Module) → Keeps (plugs i ms)
 unfolding plugs tells_inserted
-keeps_plugs i m =
-    keeps_by_state _ (λ s. keeps_then _ _ (keeps_change _ (λ t. refl))
+keeps_plugs i ms =
+    keeps_by_state _ (λ s. keeps_then _ _ (keeps_each _ _ (λ p. keeps_change _ (λ t. refl)))
     (keeps_when _ _ (keeps_svc_asks _)))
 
-recalled_names : (n i : ℕ) (s : State) → (recalled n i s).names ≡ s.names
-recalled_names n i s = by (is_some (request_of n s.bus))
+keeps_pulls_one : (i : ℕ) → Keeps (pulls_one i)
+unfolding pulls_one
+keeps_pulls_one i =
+    keeps_by_state _ (λ s. keeps_then _ _ (keeps_each _ _ keeps_unwires)
+    (keeps_change _ (λ t. refl)))
+
+recalled_names : (n : ℕ) (is : List ℕ) (s : State) → (recalled n is s).names ≡ s.names
+recalled_names n is s = by (is_some (request_of n s.bus))
   where
-    by : (t : Bool) → (if t then with_told n i s else s).names ≡ s.names
+    by : (t : Bool) → (if t then with_told n is s else s).names ≡ s.names
     by true = refl
     by false = refl
 
+keeps_tells_removed : (p : ℕ) (is : List ℕ) → Keeps (tells_removed p is)
+unfolding tells_removed
+keeps_tells_removed p is =
+    keeps_by_state _ (λ t. keeps_then _ _ (keeps_svc_asks _)
+    (keeps_change _ (recalled_names (next_number t.bus) is)))
+
+keeps_pulls_module : (p : Plugged) → Keeps (pulls_module p)
+unfolding pulls_module
+keeps_pulls_module p =
+    keeps_by_state _ (λ s. keeps_then _ _ (keeps_each _ _ keeps_pulls_one)
+    (keeps_when _ _ (keeps_tells_removed _ _)))
+
 pub keeps_pulls : (i : ℕ) → Keeps (pulls i)
-unfolding pulls tells_removed
-keeps_pulls i =
-    keeps_by_state _ (λ s. keeps_then _ _
-    (keeps_then _ _ (keeps_each _ _ keeps_unwires) (keeps_change _ (λ t. refl)))
-    (keeps_when _ _ (keeps_by_state _ (λ t. keeps_then _ _ (keeps_svc_asks _)
-    (keeps_change _ (recalled_names (next_number t.bus) i))))))
+unfolding pulls
+keeps_pulls i = keeps_by_state _ (λ s. keeps_given _ _ keeps_pulls_module)
 
 pub keeps_stirs : (i c : ℕ) (stir : Stir) → Keeps (stirs i c stir)
 unfolding stirs stirred
