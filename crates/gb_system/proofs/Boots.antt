@@ -1,7 +1,7 @@
 -- The supervisory controller starts as the machine's does.
 use Rattle.std.proofs.Common.{◌≡◌, ◌≤◌, ◌<◌, ◌+◌, ℕ, zero, suc, Bool, true, false, Option, Some}
-use Rattle.std.proofs.Common.{None, List, [], ◌∷◌, length, slice_get, drop, add-one, refl, sym}
-use Rattle.std.proofs.Common.{ap, ◌∙◌, subst, arith}
+use Rattle.std.proofs.Common.{None, List, [], ◌∷◌, length, slice_get, drop, add-one, refl, sym, ap}
+use Rattle.std.proofs.Common.{◌∙◌, subst, arith, if◌then◌else◌, option_and_then, drop_of_length-le}
 use Rattle.gb_base.specs.declared.end.Side.TheVariants as side
 use Rattle.gb_base.specs.declared.entry.Entry.{Entry}
 use Rattle.gb_base.specs.declared.event.Event.TheVariants as event
@@ -9,24 +9,29 @@ use Rattle.gb_base.specs.declared.refusal.Refusal.TheVariants as why
 use Rattle.gb_base.specs.declared.served.OwnAsk.{OwnAsk}
 use Rattle.gb_formats.specs.Grammar.{default_timeout}
 use Rattle.gb_formats.specs.SvcRecords.{SvcAsk}
+use Rattle.gb_invariants.proofs.Awaiting.{same-some}
 use Rattle.gb_machine.proofs.Opened.{machine_opened}
-use Rattle.gb_machine.specs.Actions.{Action, change, each, given, tell, when, ◌▸◌}
+use Rattle.gb_machine.specs.Actions.{Action, change, each, given, tell, when, ◌▸◌, nothing}
 use Rattle.gb_machine.specs.Asking.{asks, asks_with}
 use Rattle.gb_machine.specs.Bus.{Connection, connection_of}
 use Rattle.gb_machine.specs.Lists.{first_met}
+use Rattle.gb_machine.specs.Modules.{is_primary}
 use Rattle.gb_machine.specs.OwnAsking.{far_asks, svc_asks, svc_own}
 use Rattle.gb_machine.specs.Plugging.{tells_inserted}
 use Rattle.gb_machine.specs.Sending.{Draft, draft, is_wired, label_for}
 use Rattle.gb_machine.specs.State.{Plugged, State}
 use Rattle.gb_system.proofs.Doings.{does-by_state, does-change, does-then}
-use Rattle.gb_system.proofs.Midways.{Midway}
+use Rattle.gb_system.proofs.Midways.{Midway, each-cons, each-nil, midway-as, midway-end}
+use Rattle.gb_system.proofs.Midways.{midway-more}
 use Rattle.gb_system.proofs.Pulls.{midway-all, midway-next}
 use Rattle.gb_system.specs.Acting.{IsAskable}
 use Rattle.gb_system.specs.Doing.{Does, IsDone, IsRefused}
 use Rattle.gb_system.specs.Drafts.{own_ask}
-use Rattle.gb_system.specs.Plugging.{intfs_of}
+use Rattle.gb_system.specs.Plugging.{span_of, told_span}
 use Rattle.gb_system.specs.Stands.{PartiesStand, PartsStand}
+use Rattle.gb_system.specs.declared.modules.Span.{Span}
 use Rattle.gb_system.specs.declared.parties.Parties.{Parties}
+use Rattle.std.specs.List.{filter}
 
 -- ---- modules are no matter of requests
 

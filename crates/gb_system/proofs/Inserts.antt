@@ -1,7 +1,7 @@
 -- Modules are plugged as the machine does.
 use Rattle.std.proofs.Common.{◌≡◌, ◌≤◌, ℕ, nat_lt, Bool, true, false, Option, Some, None, is_some}
-use Rattle.std.proofs.Common.{option_copied, Bor, List, [], ◌∷◌, length, refl, sym, ap, ◌∙◌}
-use Rattle.std.proofs.Common.{subst, arith}
+use Rattle.std.proofs.Common.{option_copied, Bor, List, [], ◌∷◌, length, refl, sym, ap, ◌∙◌, subst}
+use Rattle.std.proofs.Common.{arith, map, ◌<◌, ◌+◌, zero, suc, ◌||◌, inl, inr, ◌⊎◌}
 use Rattle.std.proofs.lemmas.Bool.Decides.{nat_tests}
 use Rattle.gb_base.specs.declared.end.Side.TheVariants as side
 use Rattle.gb_base.specs.declared.entry.Entry.{Entry}
@@ -22,23 +22,27 @@ use Rattle.gb_machine.proofs.Conditions.{unmet}
 use Rattle.gb_machine.proofs.Opened.{machine_opened}
 use Rattle.gb_machine.specs.Actions.{change, when, ◌▸◌}
 use Rattle.gb_machine.specs.Events.{does}
-use Rattle.gb_machine.specs.Lists.{Condition, first_met}
+use Rattle.gb_machine.specs.Lists.{Condition, first_met, span}
 use Rattle.gb_machine.specs.Modules.{is_plugged, module_at, plugged}
 use Rattle.gb_machine.specs.OwnAsking.{far_asks}
 use Rattle.gb_machine.specs.Plugging.{plugs, tells_inserted, with_plugged}
 use Rattle.gb_machine.specs.Ports.{is_powered, powered}
 use Rattle.gb_machine.specs.Reached.{OfARun}
 use Rattle.gb_machine.specs.Refusals.{has_no_label, insert_conditions, longest_manifest, refusal}
+use Rattle.gb_machine.specs.Refusals.{is_beyond, is_taken}
 use Rattle.gb_machine.specs.State.{Plugged, State}
 use Rattle.gb_switch.specs.Stands as switch
 use Rattle.gb_switch.specs.declared.ladder.Ladder.{Ladder}
 use Rattle.gb_system.proofs.Doings.{does-as, does-by_state, does-change, does-then, does-unless}
 use Rattle.gb_system.proofs.Doings.{does-when}
+use Rattle.gb_system.proofs.Plugged.{there-is}
 use Rattle.gb_system.specs.Acting.{IsAskable}
 use Rattle.gb_system.specs.Doing.{Does, IsDone}
 use Rattle.gb_system.specs.Drafts.{own_ask}
 use Rattle.gb_system.specs.Stands.{IsShort, PartsStand}
 use Rattle.gb_system.specs.declared.parties.Parties.{Parties}
+use Rattle.std.specs.List.{list_any}
+use Rattle.std.proofs.lemmas.Bool.{cases_lt}
 
 -- ---- what runs know
 
@@ -60,11 +64,7 @@ pub plugged-is : (x : Parties) (s : State) (i : ℕ) (o : Option (Bor Module)) (
     → PartsStand [] x s → option_copied o ≡ module_at i x.modules → t ≡ is_some o
     → is_plugged i s.modules ≡ t
 plugged-is x s i o t st at is =
-    ap (is_plugged i) st.modules ∙ ap is_some (sym at) ∙ copied o ∙ sym is
-  where
-    copied : (o : Option (Bor Module)) → is_some (option_copied o) ≡ is_some o
-    copied None = refl
-    copied (Some m) = refl
+    ap (is_plugged i) st.modules ∙ there-is o (module_at i x.modules) t at is
 
 -- nothing is plugged at so many interfaces, so none of them has power
 pub free-spans : (s : State) (i count j : ℕ) → OfARun s → is_taken i count s ≡ false → i ≤ j
@@ -72,17 +72,18 @@ pub free-spans : (s : State) (i count j : ℕ) → OfARun s → is_taken i count
 free-spans s i zero j run free from to = absurd (omega (arith, from, to))
 free-spans s i (suc more) j run free from to =
     by (is_plugged i s.modules) refl (cases_lt i j)
+    (λ later above. free-spans s (i + 1) more j run later (omega (arith, above))
+    (omega (arith, to)))
   where
     by : (t : Bool) → is_plugged i s.modules ≡ t → (i < j) ⊎ (j ≤ i)
+        → (is_taken (i + 1) more s ≡ false → i < j → is_powered j s.ports ≡ false)
         → is_powered j s.ports ≡ false
-    by true there k =
+    by true there k later =
         absurd (not-both (is_taken i (suc more) s)
         (ap (λ u. u || is_taken (i + 1) more s) there) free)
-    by false there (inl above) =
-        free-spans s (i + 1) more j run
-        (sym (ap (λ u. u || is_taken (i + 1) more s) there) ∙ free)
-        (omega (arith, above)) (omega (arith, to))
-    by false there (inr least) =
+    by false there (inl above) later =
+        later (sym (ap (λ u. u || is_taken (i + 1) more s) there) ∙ free) above
+    by false there (inr least) later =
         let same : i ≡ j = omega (arith, from, least) in
         subst (λ k. is_powered k s.ports ≡ false) same (unpowered-there s i run there)
 
@@ -126,41 +127,42 @@ conditions-are s i count manifest beyond taken large p q r =
     (nat_lt longest_manifest (length manifest)) (has_no_label 1 side.Far s))) q
     ∙ ap (λ b. first_met (insert_conditions_by beyond taken b (has_no_label 1 side.Far s))) r
 
+less : (a b : ℕ) → a < b → nat_lt a b ≡ true
+less a b below = grind (arith, nat_tests, below)
+
+not-less : (a b : ℕ) → b ≤ a → nat_lt a b ≡ false
+not-less a b most = grind (arith, nat_tests, most)
+
 -- it would reach beyond the last interface
-pub insert-beyond : (s : State) (i count : ℕ) (manifest : List ℕ) → is_beyond i count ≡ true
+pub insert-beyond : (s : State) (i count : ℕ) (manifest : List ℕ) → 32 < i + count
     → Some why.OutOfRange ≡ first_met (insert_conditions s i count manifest)
 insert-beyond s i count manifest beyond =
-    sym (conditions-are s i count manifest true _ _ beyond refl refl)
+    sym (conditions-are s i count manifest true _ _ (less 32 (i + count) beyond) refl refl)
 
 -- one of its interfaces is taken
-pub insert-occupied : (s : State) (i count : ℕ) (manifest : List ℕ) → is_beyond i count ≡ false
+pub insert-occupied : (s : State) (i count : ℕ) (manifest : List ℕ) → i + count ≤ 32
     → is_taken i count s ≡ true
     → Some why.Occupied ≡ first_met (insert_conditions s i count manifest)
 insert-occupied s i count manifest within taken =
-    sym (conditions-are s i count manifest false true _ within taken refl)
+    sym (conditions-are s i count manifest false true _ (not-less 32 (i + count) within) taken refl)
 
 -- its manifest is too long
-pub insert-large : (s : State) (i count size : ℕ) (manifest : List ℕ) → is_beyond i count ≡ false
+pub insert-large : (s : State) (i count size : ℕ) (manifest : List ℕ) → i + count ≤ 32
     → is_taken i count s ≡ false → length manifest ≡ size → longest_manifest < size
     → Some why.TooLarge ≡ first_met (insert_conditions s i count manifest)
 insert-large s i count size manifest within free same large =
-    sym (conditions-are s i count manifest false false true within free
-    (less longest_manifest (length manifest) (omega (arith, same, large))))
-  where
-    less : (a b : ℕ) → a < b → nat_lt a b ≡ true
-    less a b below = grind (arith, nat_tests, below)
+    sym (conditions-are s i count manifest false false true (not-less 32 (i + count) within)
+    free (less longest_manifest (length manifest) (omega (arith, same, large))))
 
 -- an identifier is left or not
-pub insert-fits : (s : State) (i count size : ℕ) (manifest : List ℕ) → is_beyond i count ≡ false
+pub insert-fits : (s : State) (i count size : ℕ) (manifest : List ℕ) → i + count ≤ 32
     → is_taken i count s ≡ false → length manifest ≡ size → size ≤ longest_manifest
     → first_met (insert_conditions s i count manifest)
     ≡ first_met ((has_no_label 1 side.Far s, why.NoLabel) ∷ [])
 insert-fits s i count size manifest within free same fits =
-    conditions-are s i count manifest false false false within free
+    conditions-are s i count manifest false false false
+    (not-less 32 (i + count) within) free
     (not-less longest_manifest (length manifest) (omega (arith, same, fits)))
-  where
-    not-less : (a b : ℕ) → b ≤ a → nat_lt a b ≡ false
-    not-less a b most = grind (arith, nat_tests, most)
 
 -- An insert that isn't refused is done: by its kinds a module is plugged.
 pub inserted-kinds : (y : Parties) (s : State) (i : ℕ) (kinds : List Kind) (before es : List Entry)

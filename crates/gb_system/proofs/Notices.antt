@@ -158,22 +158,22 @@ acting-end {x} {whole} {s} {a} {b} false left none g =
 -- ---- requests behind a request
 
 -- they are possible at each bus
-asks-possible : (acts : List Act) {b : Bus} → AreAsks acts → ArePossible acts b
-asks-possible [] m = tt
-asks-possible (Act.Ask q ∷ rest) m = m
-asks-possible (Act.Open w q ∷ rest) m = absurd m
-asks-possible (Act.Shut k ∷ rest) m = absurd m
-asks-possible (Act.Leave k ∷ rest) m = absurd m
-asks-possible (Act.Tell e ∷ rest) m = asks-possible rest m
+asks-possible : (acts : List Act) (b : Bus) → AreAsks acts → ArePossible acts b
+asks-possible [] b m = tt
+asks-possible (Act.Ask q ∷ rest) b m = m
+asks-possible (Act.Open w q ∷ rest) b m = absurd m
+asks-possible (Act.Shut k ∷ rest) b m = absurd m
+asks-possible (Act.Leave k ∷ rest) b m = absurd m
+asks-possible (Act.Tell e ∷ rest) b m = asks-possible rest b m
 
 -- they make no connection
-asks-pend : (acts : List Act) {x : Host} → AreAsks acts → Pends acts x
-asks-pend [] m = tt
-asks-pend (Act.Ask q ∷ rest) m = asks-pend rest m.1
-asks-pend (Act.Open w q ∷ rest) m = absurd m
-asks-pend (Act.Shut k ∷ rest) m = absurd m
-asks-pend (Act.Leave k ∷ rest) m = absurd m
-asks-pend (Act.Tell e ∷ rest) m = asks-pend rest m
+asks-pend : (acts : List Act) (x : Host) → AreAsks acts → Pends acts x
+asks-pend [] x m = tt
+asks-pend (Act.Ask q ∷ rest) x m = asks-pend rest x m.1
+asks-pend (Act.Open w q ∷ rest) x m = absurd m
+asks-pend (Act.Shut k ∷ rest) x m = absurd m
+asks-pend (Act.Leave k ∷ rest) x m = absurd m
+asks-pend (Act.Tell e ∷ rest) x m = asks-pend rest x m
 
 -- ---- one more act
 
@@ -196,8 +196,8 @@ asked-more {x} {y} {whole} {s} {a} {b} {c} skips later q more m may rest done = 
   is_left = subst (λ t. IsLeft t later more) (sym done.0) rest;
   midway = midway-more (host_asks q) (each more acts) (midway-as (host_asks q ▸ each more acts)
       (each-acts (Act.Ask q) more ∙ ap (λ f. f ▸ each more acts) (acts-ask q)) m) (done.1 may.0);
-  possible = asks-possible more may.1;
-  pends = asks-pend more may.1;
+  possible = asks-possible more (host_asks q m.state).state.bus may.1;
+  pends = asks-pend more y.host may.1;
 }
 
 -- a connection is made, or its request fails and is left out

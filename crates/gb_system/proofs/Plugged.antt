@@ -1,8 +1,9 @@
 -- What is plugged, by its places.
 use Rattle.std.proofs.Common.{◌≡◌, ℕ, Bool, true, false, cond, Option, Some, None, List, [], ◌∷◌}
-use Rattle.std.proofs.Common.{option_map, suc, get_or, set, refl, sym, ap, ◌∙◌, subst}
+use Rattle.std.proofs.Common.{option_map, suc, get_or, set, refl, sym, ap, ◌∙◌, subst, ◌<◌, ◌≤◌}
+use Rattle.std.proofs.Common.{◌+◌, ◌-◌, arith, is_some, option_copied, Bor, ◌||◌}
 use Rattle.std.specs.Prelude.{nat_lt, Ok}
-use Rattle.std.specs.List.{insert, position_from}
+use Rattle.std.specs.List.{insert, position_from, list_any}
 use Rattle.gb_base.specs.declared.served.Served.{Served}
 use Rattle.gb_formats.specs.Module.{Module}
 use Rattle.gb_formats.specs.ModuleSteps.{module_serve}
@@ -105,3 +106,20 @@ pub span-all : (n count : ℕ) → span (n + 0) (count - 0) ≡ span n count
 span-all n count =
     let same : n + 0 ≡ n = omega arith in
     let all : count - 0 ≡ count = omega arith in ap (λ k. span k (count - 0)) same ∙ ap (span n) all
+
+-- whether a module is there, by the code's answer
+pub there-is : (o : Option (Bor Module)) (m : Option Module) (t : Bool) → option_copied o ≡ m
+    → t ≡ is_some o → is_some m ≡ t
+there-is o m t at is = ap is_some (sym at) ∙ copied o ∙ sym is
+  where
+    copied : (o : Option (Bor Module)) → is_some (option_copied o) ≡ is_some o
+    copied None = refl
+    copied (Some m) = refl
+
+-- where a test fails at one, whether it holds at any is told by those behind it
+pub any-next : (test : ℕ → Bool) (n count i : ℕ) → i < count → test (n + i) ≡ false
+    → list_any test (span (n + i) (count - i)) ≡ list_any test (span n count)
+    → list_any test (span (n + (i + 1)) (count - (i + 1))) ≡ list_any test (span n count)
+any-next test n count i below free so =
+    sym (ap (λ b. b || list_any test (span (n + (i + 1)) (count - (i + 1)))) free)
+    ∙ sym (ap (list_any test) (span-next n count i below)) ∙ so

@@ -1,37 +1,41 @@
 -- Modules are pulled as the machine does.
-use Rattle.std.proofs.Common.{◌≡◌, ◌≤◌, ◌+◌, ℕ, Bool, true, false, not, Option, None, List, []}
-use Rattle.std.proofs.Common.{◌∷◌, ◌++◌, length, drop, drop_of_length-le, refl, sym, ap, ◌∙◌, subst}
-use Rattle.std.proofs.Common.{arith, cond, is_some}
+use Rattle.std.proofs.Common.{◌≡◌, ◌≤◌, ◌+◌, ℕ, Bool, true, false, not, Option, None, List, [], ◌∷◌}
+use Rattle.std.proofs.Common.{◌++◌, length, drop, drop_of_length-le, refl, sym, ap, ◌∙◌, subst}
+use Rattle.std.proofs.Common.{arith, cond, is_some, map, ◌<◌, ◌-◌, Some, option_map}
 use Rattle.gb_base.specs.declared.end.Side.TheVariants as side
 use Rattle.gb_base.specs.declared.entry.Entry.{Entry}
 use Rattle.gb_base.specs.declared.event.Event.TheVariants as event
 use Rattle.gb_base.specs.declared.refusal.Refusal.{Refusal}
 use Rattle.gb_base.specs.declared.refusal.Refusal.TheVariants as why
 use Rattle.gb_formats.specs.SvcRecords.{SvcAsk}
+use Rattle.gb_invariants.proofs.Awaiting.{same-some}
 use Rattle.gb_invariants.proofs.Lists.{each-filter}
 use Rattle.gb_machine.proofs.Opened.{machine_opened}
-use Rattle.gb_machine.specs.Actions.{Action, change, each, nothing, when, ◌▸◌}
+use Rattle.gb_machine.specs.Actions.{Action, change, each, nothing, when, ◌▸◌, given}
 use Rattle.gb_machine.specs.Bus.{next_number, request_of}
 use Rattle.gb_machine.specs.Events.{does}
-use Rattle.gb_machine.specs.Lists.{first_met}
-use Rattle.gb_machine.specs.Modules.{is_plugged, is_plugged_at, unplugged}
+use Rattle.gb_machine.specs.Lists.{first_met, span}
+use Rattle.gb_machine.specs.Modules.{is_plugged, is_plugged_at, unplugged, interfaces_of, part_at}
 use Rattle.gb_machine.specs.OwnAsking.{far_asks, svc_asks}
 use Rattle.gb_machine.specs.Plugging.{recalled, tells_removed, wired_numbers, with_pulled}
-use Rattle.gb_machine.specs.Plugging.{with_told}
+use Rattle.gb_machine.specs.Plugging.{with_told, pulls_module, pulls_one}
 use Rattle.gb_machine.specs.Ports.{unpowered}
 use Rattle.gb_machine.specs.Refusals.{has_no_label, refusal}
 use Rattle.gb_machine.specs.State.{Plugged, State}
 use Rattle.gb_machine.specs.Wires.{unwires, with_unwired}
 use Rattle.gb_switch.specs.Stands as switch
 use Rattle.gb_switch.specs.declared.ladder.Ladder.{Ladder}
-use Rattle.gb_system.proofs.Doings.{does-by_state, does-change, does-then}
+use Rattle.gb_system.proofs.Doings.{does-by_state, does-change, does-then, does-given}
 use Rattle.gb_system.proofs.Midways.{Midway, each-cons, each-nil, midway-as, midway-end}
-use Rattle.gb_system.proofs.Midways.{midway-more}
+use Rattle.gb_system.proofs.Midways.{midway-more, midway-first}
+use Rattle.gb_system.proofs.Plugged.{span-all, span-next, span-past}
 use Rattle.gb_system.proofs.Standing.{repast}
 use Rattle.gb_system.specs.Acting.{IsAskable}
 use Rattle.gb_system.specs.Doing.{Does, IsDone, IsRefused}
 use Rattle.gb_system.specs.Drafts.{own_ask}
+use Rattle.gb_system.specs.Plugging.{span_of}
 use Rattle.gb_system.specs.Stands.{IsShort, PartiesStand, PartsStand}
+use Rattle.gb_system.specs.declared.modules.Span.{Span}
 use Rattle.gb_system.specs.declared.parties.Parties.{Parties}
 
 -- ---- actions for each of a list, midway

@@ -1,11 +1,14 @@
 -- What the application processor does of its own is possible, since its connections go
 -- with the bus.
 use Rattle.std.proofs.Common.{◌≡◌, ◌≤◌, ◌<◌, ℕ, true, false, Option, Some, None, is_none, List}
-use Rattle.std.proofs.Common.{option_map, [], ◌∷◌, ◌==◌}
-use Rattle.std.proofs.Common.{length, refl, sym, ap, ◌∙◌, inl, inr, subst, arith}
+use Rattle.std.proofs.Common.{option_map, [], ◌∷◌, ◌==◌, length, refl, sym, ap, ◌∙◌, inl, inr}
+use Rattle.std.proofs.Common.{subst, arith, ◌++◌}
 use Rattle.gb_base.specs.declared.end.End.{End}
 use Rattle.gb_base.specs.declared.end.End.TheVariants as end
 use Rattle.gb_base.specs.declared.entry.ConnState.TheVariants as state
+use Rattle.gb_base.specs.declared.entry.Entry.{Entry}
+use Rattle.gb_base.specs.declared.entry.Entry.TheVariants as entry
+use Rattle.gb_base.specs.declared.entry.IntfStage.TheVariants as stage
 use Rattle.gb_base.specs.declared.event.Event.TheVariants as event
 use Rattle.gb_base.specs.declared.host_event.HostEvent.TheVariants as host_event
 use Rattle.gb_base.specs.declared.host_event.HostEvent.{HostEvent}
@@ -15,30 +18,34 @@ use Rattle.gb_base.specs.declared.steps.SequenceStep.{SequenceStep}
 use Rattle.gb_base.specs.declared.steps.SequenceStep.TheVariants as steps
 use Rattle.gb_bus.specs.Wiring.{IsOther}
 use Rattle.gb_formats.specs.Results.{most_payload}
+use Rattle.gb_formats.specs.SvcRecords.{read_svc_ask}
 use Rattle.gb_formats.specs.ValidEvents.{IsValid}
 use Rattle.gb_base.specs.declared.end.Side.TheVariants as side
 use Rattle.gb_invariants.proofs.Awaiting.{not-both, same-some}
 use Rattle.gb_invariants.proofs.Found.{find-none}
+use Rattle.gb_invariants.proofs.ItemChanges.{first-in}
 use Rattle.gb_invariants.proofs.Lists.{each-from, found-in}
+use Rattle.gb_invariants.specs.Facts.{IsMadeOn, IsOwn}
 use Rattle.gb_laws.proofs.links.LinkBuses.{Linked, linked-left, linked-rest, linked-shut}
 use Rattle.gb_laws.proofs.links.Links.{IsFormed, IsFree, IsKnown, IsMaking, connection, control}
-use Rattle.gb_laws.proofs.links.Links.{leaving}
-use Rattle.gb_laws.proofs.links.Links.{linked, supervisory}
-use Rattle.gb_laws.proofs.marks.MarkNotices.{SvcFront, svc-front}
+use Rattle.gb_laws.proofs.links.Links.{leaving, linked, supervisory}
+use Rattle.gb_laws.proofs.marks.MarkNotices.{SvcFront, svc-front, Tells, told-svc}
+use Rattle.gb_laws.proofs.points.Places.{place-is}
 use Rattle.gb_laws.proofs.runs.Noticing.{KnowsAt, knows-ended}
 use Rattle.gb_laws.proofs.points.PointParts.{IsNoticed}
-use Rattle.gb_laws.proofs.runs.Reached.{reached-linked, reached-told}
+use Rattle.gb_laws.proofs.runs.Reached.{reached-linked, reached-told, reached-insertion}
 use Rattle.gb_laws.proofs.links.Turned.{turned-connects, turned-disconnects, turned-ended}
 use Rattle.gb_laws.proofs.links.Turned.{turned-idle}
-use Rattle.gb_laws.proofs.links.Turned.{turned-noticed}
-use Rattle.gb_machine.specs.Bus.{Bus, Connection, Item, Place, connection_of, has_number}
-use Rattle.gb_machine.specs.Bus.{place_of, queue}
-use Rattle.gb_machine.specs.Bus.{same_end}
-use Rattle.gb_machine.specs.Host.{Host, in_state, link_at, with_link}
+use Rattle.gb_machine.specs.Bus.{Bus, Connection, Item, Place, connection_of, has_number, place_of}
+use Rattle.gb_machine.specs.Bus.{queue, same_end, other_side, request_of, Request}
+use Rattle.gb_machine.specs.Host.{Host, in_state, link_at, with_link, first_host, interfaces_of}
+use Rattle.gb_machine.specs.Host.{with_new_interface}
 use Rattle.gb_machine.specs.HostActs.{notices}
 use Rattle.gb_machine.specs.HostServing.{host_serves}
+use Rattle.gb_machine.specs.HostTurns.{host_inserted, host_removed, links_left, links_of}
+use Rattle.gb_machine.specs.HostTurns.{one_by_one, without_interface}
 use Rattle.gb_machine.specs.Incoming.{Incoming, incoming, request_in}
-use Rattle.gb_machine.specs.Lists.{first}
+use Rattle.gb_machine.specs.Lists.{first, span}
 use Rattle.gb_machine.specs.Members.{IsIn}
 use Rattle.gb_machine.specs.Reached.{OfARun}
 use Rattle.gb_machine.specs.Refusals.{refusal}
@@ -47,8 +54,8 @@ use Rattle.gb_machine.specs.SequenceSteps.{Target, asks_control, kind_of, payloa
 use Rattle.gb_machine.specs.Sequences.{link_turn}
 use Rattle.gb_machine.specs.State.{State}
 use Rattle.gb_machine.specs.Turns.{Act, Asking, Making}
-use Rattle.gb_machine.specs.Wiring.{shut_down}
-use Rattle.gb_system.specs.Acting.{ArePossible, IsAskable, MayTurn}
+use Rattle.gb_machine.specs.Wiring.{shut_down, detached}
+use Rattle.gb_system.specs.Acting.{ArePossible, IsAskable, MayTurn, AreAsks}
 use Rattle.gb_system.specs.Ending.{MayFollow, MayIdle}
 
 -- ---- requests of steps

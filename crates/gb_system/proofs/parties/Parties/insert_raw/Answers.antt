@@ -1,6 +1,6 @@
 -- An insert by a manifest is refused or done as the machine does.
 use Rattle.std.proofs.Common.{refl, sym, ◌∙◌}
-use Rattle.gb_system.proofs.Inserts.{inserted-raw}
+use Rattle.gb_system.proofs.Pluggings.{raw-done}
 use Rattle.gb_system.proofs.parties.Parties.insert_raw.Goals as goal
 
 pub returns-in-Some : goal.returns-in-Some
@@ -15,8 +15,8 @@ returns-in-Some c = record {
 pub returns : goal.returns
 returns c = record {
   step = λ s st.
-      inserted-raw c.plug.new.self s c.args.intf c.args.manifest.now c.in_ok-module.module
-      c.args.told.now c.plug.new.told st.run c.in_ok-module.ensures
+      raw-done c.tell_plugged.new.self s c.args.intf c.args.manifest.now c.in_ok-body.body
+      c.args.told.now c.tell_plugged.new.told st c.in_ok-body.ensures
       (sym c.in_default.is ∙ c.insert_refusal.ensures.is s c.args.manifest.now st.parts refl)
-      (c.in_ok-plug.ensures.step s st.parts);
+      c.in_ok-plug.ensures.step c.in_ok-tell_plugged.ensures.step;
 }
