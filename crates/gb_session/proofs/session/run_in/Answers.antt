@@ -1,8 +1,8 @@
 -- A line that the reporter took was taken by the session.
-use Rattle.std.proofs.Common.{Ok, subst}
+use Rattle.std.proofs.Common.{◌+◌, ◌<◌, Ok, subst}
 use Rattle.gb_session.specs.Reporting.{RunsAs}
 use Rattle.gb_session.specs.declared.reporter.Ran.{Ran}
-use Rattle.gb_session.proofs.Sessions.{takes-line}
+use Rattle.gb_session.proofs.Sessions.{takes-line, takes-none}
 use Rattle.gb_session.proofs.session.run_in.Goals as goal
 
 pub returns-in-Ok-Done : goal.returns-in-Ok-Done
@@ -24,3 +24,11 @@ returns-in-Ok-Bad c = λ hex n s stands.
       takes-line c.args.reporter.now c.take.new.self hex n c.args.line.now s stands ran.1
           c.in-Ok-Bad.ensures.number c.in-Ok-Bad.ensures.hex,
     )
+
+pub returns-in_default : goal.returns-in_default
+returns-in_default c = λ hex n s stands.
+    let number = c.number.ensures in
+    takes-none c.args.reporter.now c.clear.new.self hex n s stands
+    (subst (λ k. k < 4294967296) number c.number.type_inv)
+    (subst (λ k. ¬ (k + 1 < 4294967296)) number c.in_default.ensures) c.clear.ensures.text
+    (c.clear.ensures.stands s) c.clear.ensures.number c.clear.ensures.hex

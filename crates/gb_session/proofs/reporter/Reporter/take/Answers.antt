@@ -14,6 +14,13 @@ step_into-requires-clause-valid c =
     judged-valid 0 c.args.line.bytes.now c.in-Ok-Some.e
     (c.in-Ok-Some.ensures ∙ ap Ok c.in-Ok-Some.field-0-is)
 
+pub returns-then-line-clause-ran : goal.returns-then-line-clause-ran
+returns-then-line-clause-ran c = λ s whole st is.
+    takes-bad _ whole s bad.Long
+    (long-line c.args.line.bytes.now c.args.line.long whole is c.if-line.true) st
+    (c.in_ok-append_refusal.ensures
+    ∙ ap (λ t. t ++ refusal_line_text c.args.line.number bad.Long) c.clear.ensures.bytes)
+
 pub returns-in-Ok-None-clause-ran : goal.returns-in-Ok-None-clause-ran
 returns-in-Ok-None-clause-ran c = λ s whole st is.
     takes-blank _ whole s
