@@ -71,7 +71,7 @@ def lines_have_any_end():
         assert raised(BadLine, bus.line, b"boot\0").report == "line 8: bad byte 5\n"
         assert raised(BadLine, bus.line, "boot \u00e4").report == "line 9: bad byte 6\n"
         assert raised(BadLine, bus.line, "boot \udcff").report == "line 10: bad byte 6\n"
-        longest = "boot".ljust(gbus.LONGEST_LINE)
+        longest = "tick 1".ljust(gbus.LONGEST_LINE)
         assert str(raised(BadLine, bus.line, longest + " ")) == "line 11: too long"
         assert bus.line(longest) == "line 12 ok\n"
 
