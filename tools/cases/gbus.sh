@@ -1,6 +1,6 @@
 #!/bin/sh
-# What bin/gbus says in a tree of three crates, where a script stands for the kit's command: nothing
-# built, a build that fails and is begun again, the program, and sources that change.
+# What bin/gbus says in a tree of four crates, where scripts stand for the kit's commands: nothing
+# built, a build that fails and is begun again, the program, sources that change, and the libraries.
 
 folder=$(mktemp -d) || exit 1
 trap 'rm -rf "$folder"' EXIT
@@ -9,13 +9,13 @@ mkdir -p "$tree/tools" "$tree/docs" "$folder/bin"
 cp -r bin "$tree"
 printf '%s\n' 'words run | a report' 'words run --hex | the same' 'words dump | a dump' \
     'words drive N | a summary' 'form boot' >"$tree/tools/forms.txt"
-for crate in gb_low gb_other gbus; do
+for crate in gb_low gb_other gbus gbus_c; do
     mkdir -p "$tree/crates/$crate/src" "$tree/crates/$crate/specs"
     : >"$tree/crates/$crate/src/lib.rt"
     : >"$tree/crates/$crate/specs/Lib.antt"
 done
 printf '%s\n' 'gb_low: hex' 'gb_other: gb_low' 'gb_apart: gb_low' 'gbus: gb_low gb_other' \
-    >"$tree/crates.txt"
+    'gbus_c staticlib: core gb_low' >"$tree/crates.txt"
 printf '%s\n' '| Crate | Lines | Proof | Tests |' '|---|---|---|---|' \
     '| gb_low | 2,244 | 600 |  |' \
     '| gbus | 10 | 1,140 | 5 |' >"$tree/docs/ARCHITECTURE.md"
@@ -38,7 +38,11 @@ case $1 in
     lib)
         [ "$crate" != gb_low ] || echo "rt: waiting for another rt to finish in $PWD" >&2
         printf '%s\n' 'a: proved' "error: $crate isn't proved"
-        [ "$crate" != "$REFUSED" ]
+        [ "$crate" != "$REFUSED" ] || exit 1
+        [ "$crate" != gbus_c ] || { mkdir -p out && echo calls >out/libgbus_c.a; }
+        ;;
+    doc)
+        echo "${0%/bin/rt}/kit/START-HERE.md"
         ;;
     run)
         printf '%s\n' '#!/bin/sh' 'echo "proved $*: $(cat)"' >out/gbus
@@ -46,7 +50,20 @@ case $1 in
         ;;
 esac
 END
-chmod +x "$folder/bin/rt"
+mkdir -p "$folder/kit/c" "$folder/kit/toolchain/bin"
+echo heap >"$folder/kit/c/liblibc_c.a"
+cat >"$folder/kit/toolchain/bin/llvm-ar" <<'END'
+#!/bin/sh
+read -r _ name
+sed -n 's/^addlib //p' | xargs cat >"$name"
+END
+cat >"$folder/kit/toolchain/bin/ld.lld" <<'END'
+#!/bin/sh
+[ -z "$UNLINKED" ] || exit 1
+while [ "$1" != -o ]; do shift; done
+cat libgbus.a >"$2"
+END
+chmod +x "$folder/bin/rt" "$folder/kit/toolchain/bin"/*
 PATH=$folder/bin:$PATH
 export PATH
 
@@ -83,3 +100,11 @@ later "$tree/crates/gb_other/specs"
 runs run
 rm -r "$tree/crates/gb_other/specs"
 runs run
+REFUSED=gbus_c runs lib
+runs lib
+runs lib
+cat "$tree/crates/gbus_c/out/libgbus.so"
+UNLINKED=1 runs lib
+ls "$tree/crates/gbus_c/out"
+later "$tree/crates/gb_low/src/lib.rt"
+runs lib

@@ -3,7 +3,6 @@ pub mod Driving
 pub mod Jobs
 pub mod Program
 pub mod Reading
-pub mod Reporting
 pub mod Runs
 pub mod Sessions
 pub mod Stages

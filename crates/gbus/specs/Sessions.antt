@@ -1,30 +1,50 @@
 -- What a line does to a session.
-use Rattle.std.specs.Prelude.{◌≡◌, ℕ, true, false, Result, Ok, Err, ⊤, List, [], ◌∷◌, ◌++◌}
+use Rattle.std.specs.Prelude.{◌≡◌, ℕ, ◌+◌, true, false, Result, Ok, Err, ⊤, List, [], ◌∷◌, ◌++◌}
 use Rattle.gb_base.specs.declared.errors.OutOfMemory.{OutOfMemory}
 use Rattle.gb_base.specs.declared.status.Status.{Status}
 use Rattle.gb_base.specs.declared.status.Status.TheVariants as status
 use Rattle.gb_capture.specs.Auditors as auditors
-use Rattle.gbus.specs.Program.{Audit, LineJob, Report, has_bad, is_bad, lines_text}
-use Rattle.gbus.specs.Reporting.{HasRun, reported_last}
 use Rattle.gb_capture.specs.declared.auditor.Turn.{Turn}
 use Rattle.gb_capture.specs.declared.auditor.Turn.TheVariants as turn
+use Rattle.gb_machine.specs.Report.{has_bad_line, report_from}
+use Rattle.gb_machine.specs.State.{State, first_state}
+use Rattle.gb_session.specs.Reporting as reporter
+use Rattle.gb_session.specs.Reporting.{number_of, reported_last, shows_bytes}
+use Rattle.gb_session.specs.declared.reporter.Ran.{Ran}
+use Rattle.gb_session.specs.declared.reporter.Ran.TheVariants as ran
+use Rattle.gb_session.specs.declared.reporter.Reporter.{Reporter}
+use Rattle.gbus.specs.Program.{Audit, LineJob, Report, has_bad, is_bad, lines_text}
 use Rattle.gbus.specs.declared.session.Session.{Session}
 use Rattle.gbus.specs.declared.session.Session.TheVariants as session
 
+-- what became of a line of a script
+abbrev pub turn_of : Ran → Turn
+turn_of ran.Done = turn.Next
+turn_of ran.Bad = turn.Refused
+
 -- what is done of each line
 abbrev pub doing : Session → LineJob
-doing (session.Report r) = Report r.hex
+doing (session.Report r) = Report (shows_bytes r)
 doing (session.Audit a) = Audit
 
 -- how many lines were taken
 abbrev pub lines_taken : Session → ℕ
-lines_taken (session.Report r) = r.number
+lines_taken (session.Report r) = number_of r
 lines_taken (session.Audit a) = auditors.number_of a
 
 -- what is to be written of the last line, or behind all lines
 abbrev pub written : Session → List ℕ
 written (session.Report r) = reported_last r
 written (session.Audit a) = auditors.written a
+
+-- These lines were taken and are good, and the reporter is in the state behind them.
+pub record HasRun (x : Reporter) (given : List (List ℕ)) : Type 0 where
+  pub state : State
+  pub stands : reporter.Stands x state
+  pub goes : (ls : List (List ℕ)) → report_from (shows_bytes x) 1 first_state (given ++ ls)
+      ≡ report_from (shows_bytes x) 1 first_state given
+      ++ report_from (shows_bytes x) (number_of x + 1) state ls
+  pub good : has_bad_line given ≡ false
 
 -- what is done of each line was done of these, and all are good
 abbrev pub HasDone : Session → List (List ℕ) → Type 0

@@ -17,7 +17,6 @@ mod line_worker;
 mod manifests;
 mod output;
 mod plain;
-mod reporter;
 mod run;
 mod session;
 mod share;

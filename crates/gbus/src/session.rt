@@ -4,12 +4,13 @@ ghost use Rattle.std.specs.Prelude.{◌≡◌, ◌+◌, ℕ, List, [], IfOk, OnO
 ghost use Rattle.gb_script.specs.Readers.{IsLineOf};
 ghost use Rattle.gbus.specs.Jobs.{line_job_seen};
 ghost use Rattle.gbus.specs.Program.{LineJob as Seen, last_text};
+ghost use Rattle.gbus.specs.Sessions.{turn_of};
 
-use crate::reporter::Reporter;
 use crate::words::LineJob;
 use gb_base::OutOfMemory;
 use gb_capture::{Auditor, Turn};
 use gb_script::Line;
+use gb_session::{Ran, Reporter};
 use std::alloc::Global;
 
 /// What has been done of the lines of an input.
@@ -50,7 +51,10 @@ impl Session {
         ensures number { OnOk result (lines_taken self.new ≡ lines_taken self.old + 1) }
     {
         match self {
-            Session::Report(reporter) => reporter.take(line),
+            Session::Report(reporter) => {
+                let ran = reporter.take(line)?;
+                Ok(turn_of(ran))
+            }
             Session::Audit(auditor) => auditor.take(line),
         }
     }
@@ -77,5 +81,15 @@ impl Session {
             Session::Report(reporter) => reporter.text(),
             Session::Audit(auditor) => auditor.text(),
         }
+    }
+}
+
+/// What became of a line of a script.
+fn turn_of(ran: Ran) -> Turn
+    ensures { result ≡ turn_of ran }
+{
+    match ran {
+        Ran::Done => Turn::Next,
+        Ran::Bad => Turn::Refused,
     }
 }
