@@ -1,7 +1,7 @@
 use gb_base::{
-    BridgeAsk, Bytes, End, Entry, Event, Failed, I2cOp, I2cOps, MemSink, MemSource, Name, NoRoom,
-    Numbers, Outcome, OwnAsk, OwnAsks, PlainSink, PlainSource, Served, Sink, Source, SpiOp, SpiOps,
-    StdSink, StdSource, Text, TryCopy, Word, WriteStop,
+    BridgeAsk, Bytes, End, Entry, Event, Failed, I2cOp, I2cOps, Kind, Kinds, MemSink, MemSource,
+    Name, NoRoom, Numbers, Outcome, OwnAsk, OwnAsks, PlainSink, PlainSource, Served, Sink, Source,
+    SpiOp, SpiOps, StdSink, StdSource, Text, TryCopy, Word, WriteStop,
 };
 use std::alloc::Global;
 use std::process::Abort;
@@ -88,6 +88,18 @@ fn events_are_copied(rt: HostRuntime) {
     let copy = event.copy().expect(&rt, "memory");
     assert!(rt;
         matches!(&copy, Event::Send { payload, .. } if payload.items() == b"ab".as_slice())
+    );
+}
+
+#[test]
+fn kinds_are_copied(rt: HostRuntime) {
+    let mut kinds = Kinds::one(Kind::Gpio);
+    kinds.push(Kind::Uart);
+    let event = Event::Insert { intf: 2, kinds };
+    let copy = event.copy().expect(&rt, "memory");
+    assert!(rt;
+        matches!(&copy, Event::Insert { intf: 2, kinds }
+        if kinds.items() == [Kind::Gpio, Kind::Uart].as_slice())
     );
 }
 

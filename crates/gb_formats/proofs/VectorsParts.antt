@@ -75,7 +75,8 @@ made-drawn = refl
 
 -- the first lines of the made script of seed 1
 pub made-first : map (made 1) (1 ∷ 4 ∷ 5 ∷ 6 ∷ 7 ∷ 10 ∷ 11 ∷ 22 ∷ 23 ∷ 20024 ∷ [])
-    ≡ event.Insert 2 (kind.Bridge ∷ []) ∷ event.Insert 5 (kind.Bridge ∷ []) ∷ event.Boot ∷ event.Settle 60000
+    ≡ event.Insert 2 (kind.Bridge ∷ []) ∷ event.Insert 5 (kind.Bridge ∷ []) ∷ event.Boot
+    ∷ event.Settle 60000
     ∷ event.Connect 2 1 ∷ event.Connect 2 4 ∷ event.Connect 3 1 ∷ event.Connect 5 4
     ∷ event.Settle 60000 ∷ event.Settle 60000 ∷ []
 unfolding made_number last_named

@@ -49,7 +49,7 @@ left_acts None = []
 left_acts (Some l) =
     turns.Act.Leave l.connection ∷ turns.Act.Tell (link_told state.Closed l) ∷ []
 
--- an interface, before it has a device id
+-- of what the first request of an enumeration speaks
 abbrev pub target_at : ℕ → Target
 target_at i = record { intf = i; cport = 0; ap = 0; device = 0 }
 

@@ -225,7 +225,7 @@ impl Host {
     }
 }
 
-/// So many interfaces from the primary one on, of those that are numbers of one byte.
+/// So many interfaces from the primary one on; those beyond 255 are left out.
 fn span(alloc: Global, primary: u8, count: u8) -> Result<Sequence<u8>, OutOfMemory>
     ensures { primary + count ≤ 256 → IfOk result (λ intfs. intfs ≡ span primary count) }
 {

@@ -124,7 +124,7 @@ impl Interfaces {
         None
     }
 
-    /// The interfaces of a module, in order of number.
+    /// The interfaces of a module, by its primary one, in order of number.
     pub fn of(&self, alloc: Global, primary: u8) -> Result<Sequence<u8>, OutOfMemory>
         ensures { IfOk result (λ intfs.
             intfs ≡ map (λ x. x.intf) (filter (has_primary primary) self.now)) }
@@ -282,7 +282,7 @@ fn add_all(known: &mut Vec<Interface>, alloc: Global, primary: u8, intfs: &[u8])
     ensures { known.new.items ≡ with_module primary intfs.now known.old.items }
 {
     for intf in intfs {
-        add(known, begun(alloc, primary, *intf));
+        add(known, new_interface(alloc, primary, *intf));
     }
 }
 
@@ -298,7 +298,7 @@ fn add(known: &mut Vec<Interface>, interface: Interface)
 }
 
 /// An interface of a module, whose enumeration begins.
-fn begun(alloc: Global, primary: u8, intf: u8) -> Interface
+fn new_interface(alloc: Global, primary: u8, intf: u8) -> Interface
     ensures { result ≡ new_interface primary intf }
 {
     Interface {

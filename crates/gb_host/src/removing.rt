@@ -51,7 +51,8 @@ impl Host {
         Ok(acts)
     }
 
-    /// The connections of an interface are closed and given up, unless it is gone already.
+    /// The connections of an interface are closed and given up. One that is gone already has none
+    /// left; no run leads to a host that knows a number twice, but each has its turn.
     fn leave_rest(&self, acts: Acts, gone: &[u8], intf: u8) -> Result<Acts, OutOfMemory>
         ensures { IfOk result (λ all. all ≡ acts ++ spelled (links_left (links_of intf
             (one_by_one host_removed gone.now (host_of self.now)).host))) }

@@ -16,6 +16,7 @@ pub mod ModuleTurns
 pub mod Numbers
 pub mod OneItem
 pub mod Outcomes
+pub mod OverFailures
 pub mod OverTurns
 pub mod Selves
 pub mod Wires

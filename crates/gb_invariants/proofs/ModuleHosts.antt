@@ -1,5 +1,4 @@
--- What the application processor knows of interfaces once those of a module were inserted or
--- removed.
+-- What the application processor knows once a module was inserted or removed.
 use Rattle.std.proofs.Common.{List, None, Option, Some, ap, false, inl, inr, map, refl, sym, true}
 use Rattle.std.proofs.Common.{ℕ}
 use Rattle.std.proofs.Common.{arith, [], ◌∙◌, ◌∷◌, ◌≡◌, ◌≢◌}

@@ -1,9 +1,7 @@
--- A law of turns goes over what the application processor does at what it takes notice of, and
--- where a request can't be made.
-use Rattle.std.proofs.Common.{Bool, List, None, Option, Some, ap, cond, false, length, map, refl}
-use Rattle.std.proofs.Common.{true, ℕ, [], ◌++◌, ◌∙◌, ◌∷◌, ◌≡◌}
+-- A law of turns goes over what the application processor does at what it takes notice of.
+use Rattle.std.proofs.Common.{Bool, List, None, Option, Some, ap, cond, false, length, refl}
+use Rattle.std.proofs.Common.{true, ℕ, [], ◌∙◌, ◌∷◌, ◌≡◌}
 use Rattle.std.specs.Prelude.{Err, Ok, Result, option_and_then, ◌==◌}
-use Rattle.gb_base.specs.declared.entry.{ConnState.ConnState, Entry.Entry}
 use Rattle.gb_base.specs.declared.host_event.HostEvent.TheVariants as host_event
 use Rattle.gb_base.specs.declared.host_event.HostEvent.{HostEvent}
 use Rattle.gb_base.specs.declared.outcome.Outcome.{Outcome}
@@ -16,134 +14,30 @@ use Rattle.gb_base.specs.declared.outcome.Outcome.TheVariants as outcome
 use Rattle.gb_base.specs.declared.steps.SequenceStep.TheVariants as steps
 use Rattle.gb_formats.specs.Manifest.{CportView, Manifest, check_answer}
 use Rattle.gb_formats.specs.{ControlRecords.read_control_reply, ManifestRules.Refused}
-use Rattle.gb_machine.specs.Failures.{interface_fails, link_fails, step_fails, told_of, unsent}
-use Rattle.gb_machine.specs.Failures.{unsent_fails, without_device}
+use Rattle.gb_machine.specs.Failures.{interface_fails, step_fails}
 use Rattle.gb_machine.specs.Host.{Host, cport_of, free_cport, free_device, in_state, interface_of}
-use Rattle.gb_machine.specs.Host.{is_draining, link_at, link_of, staged, with_interface, with_link}
+use Rattle.gb_machine.specs.Host.{is_draining, link_at, link_of, with_interface, with_link}
 use Rattle.gb_machine.specs.Host.{with_new_interface, without_link}
 use Rattle.gb_machine.specs.HostTurns.{connects, connects_on, disconnects, drained, ended_for}
 use Rattle.gb_machine.specs.HostTurns.{host_disconnects, host_drains, host_idle, host_inserted}
 use Rattle.gb_machine.specs.HostTurns.{host_removed, without_interface}
 use Rattle.gb_machine.specs.SequenceSteps.{at_step, is_enumeration, is_reply, purpose}
-use Rattle.gb_machine.specs.Sequences.{asked_on, begins_control, begins_device, link_left}
+use Rattle.gb_machine.specs.Sequences.{begins_control, begins_device, link_left}
 use Rattle.gb_machine.specs.Sequences.{link_turn, manifest_checked, opened, opened_told, payload_in}
 use Rattle.gb_machine.specs.Sequences.{size_in, size_known, step_answered, step_asked, step_done}
-use Rattle.gb_machine.specs.Sequences.{way_of}
-use Rattle.gb_machine.specs.Turns.{Act, Turn, failed_turn, telling, turn}
+use Rattle.gb_machine.specs.Turns.{Act, failed_turn, turn}
 use Rattle.gb_machine.specs.Waits.{awaited, awaits_nothing}
-use Rattle.gb_invariants.proofs.HostChanges.{AsksAt, FailsAt, IsAnswered, IsAskedAt, IsClosingFor}
-use Rattle.gb_invariants.proofs.HostChanges.{IsDrained, IsOfNone, Keeps, MayTurnTo, Notice}
-use Rattle.gb_invariants.proofs.HostChanges.{Occasion, TurnLaw, arrives, asks, at_event}
-use Rattle.gb_invariants.proofs.HostChanges.{at_insertion, at_notice, at_removal, at_unsent}
+use Rattle.gb_invariants.proofs.HostChanges.{FailsAt, IsAnswered, IsAskedAt, IsClosingFor}
+use Rattle.gb_invariants.proofs.HostChanges.{IsDrained, Notice}
+use Rattle.gb_invariants.proofs.HostChanges.{TurnLaw, arrives, asks, at_event}
+use Rattle.gb_invariants.proofs.HostChanges.{at_insertion, at_notice, at_removal}
 use Rattle.gb_invariants.proofs.HostChanges.{by_disconnect, by_idle, closes, departs, end_of}
-use Rattle.gb_invariants.proofs.HostChanges.{enumerates, event_turn, fails, is_creating, leaves}
-use Rattle.gb_invariants.proofs.HostChanges.{makes, rests, resumes, step_behind, tells, to_close}
+use Rattle.gb_invariants.proofs.HostChanges.{enumerates, event_turn, is_creating, leaves}
+use Rattle.gb_invariants.proofs.HostChanges.{makes, resumes, step_behind, to_close}
 use Rattle.gb_invariants.proofs.HostChanges.{to_connect, to_disconnect, to_enumerate, to_go_on}
-use Rattle.gb_invariants.proofs.HostChanges.{turn_of, turns_to, updates}
-
--- ---- what fails
-
-module _ (o : Occasion) (law : TurnLaw o) where
-  resting : (h : Host) → law.says h (turn h [])
-  resting h = law.ends rests h tt
-
-  told : (e : Entry) (h : Host) (t : Turn) → IsOfNone e → law.says h t → law.says h (telling e t)
-  told e h t plain s = law.over (tells e) h t plain tt s
-
-  interface-fails : (p : Purpose) (h : Host) → FailsAt o p.intf
-      → law.says h (failed_turn (interface_fails p h))
-  interface-fails p h why =
-      let g = with_interface p.intf (staged stage.Failed) h in
-      told (entry.Interface p.intf stage.Failed) h (turn g []) tt
-      (law.over (fails p.intf) h (turn g []) tt why (resting g))
-
-  -- a connection opens, drains or fails in front of a turn
-  turned : (i c : ℕ) (to : ConnState) (l : Option Link) (h : Host) (t : Turn) → link_at i c h ≡ l
-      → MayTurnTo to → law.says (with_link i c (in_state to) h) t
-      → law.says h (turn t.host (map Act.Tell (told_of to l) ++ t.acts))
-  turned i c to l h t found good s = law.over (turns_to i c to l) h t (found, good) tt s
-
-  link-fails : (p : Purpose) (h : Host) → law.says h (failed_turn (link_fails p h))
-  link-fails p h = by (link_at p.intf p.cport h) refl
-    where
-      g : Host
-      g = with_link p.intf p.cport (in_state state.Failed) h
-
-      by : (l : Option Link) → link_at p.intf p.cport h ≡ l
-          → law.says h (turn g (map Act.Tell (told_of state.Failed l)))
-      by None e = turned p.intf p.cport state.Failed None h (turn g []) e tt (resting g)
-      by (Some l) e =
-          turned p.intf p.cport state.Failed (Some l) h (turn g []) e tt (resting g)
-
-  -- the Control connection fails, and then its interface
-  control-fails : (p : Purpose) (h : Host) → FailsAt o p.intf
-      → law.says h (failed_turn (step_fails steps.CreateControl p h))
-  control-fails p h why = by (link_at p.intf p.cport h) refl
-    where
-      g : Host
-      g = with_link p.intf p.cport (in_state state.Failed) h
-
-      by : (l : Option Link) → link_at p.intf p.cport h ≡ l → law.says h
-          (turn (interface_fails p g).host
-          (map Act.Tell (told_of state.Failed l ++ (interface_fails p g).told)))
-      by None e = turned p.intf p.cport state.Failed None h (failed_turn (interface_fails p g)) e
-          tt (interface-fails p g why)
-      by (Some l) e = turned p.intf p.cport state.Failed (Some l) h
-          (failed_turn (interface_fails p g)) e tt (interface-fails p g why)
-
-  step-fails : (step : SequenceStep) (p : Purpose) (h : Host)
-      → (is_enumeration step ≡ true → FailsAt o p.intf)
-      → law.says h (failed_turn (step_fails step p h))
-  step-fails steps.CreateControl p h why = control-fails p h (why refl)
-  step-fails steps.CreateConnection p h why = link-fails p h
-  step-fails steps.TellConnected p h why = link-fails p h
-  step-fails steps.TellDisconnecting p h why = link-fails p h
-  step-fails steps.TellDisconnected p h why = link-fails p h
-  step-fails steps.DestroyConnection p h why = link-fails p h
-  step-fails _ p h why = interface-fails p h (why refl)
-
-  -- an interface changes in front of a turn
-  updated : (i : ℕ) (f : Interface → Interface) (h : Host) (t : Turn) → Keeps f
-      → law.says (with_interface i f h) t → law.says h t
-  updated i f h t keeps s = law.over (updates i f) h t keeps tt s
-
-  -- a request is made, or fails where there is no connection for it
-  asked : (p : Purpose) (h : Host) → AsksAt o p → is_creating p.step ≡ false
-      → (is_enumeration p.step ≡ true → FailsAt o p.intf) → law.says h (step_asked p h)
-  asked p h why plain fail = by (way_of p h)
-    where
-      by : (k : Option ℕ) → law.says h (asked_on k p h)
-      by None = step-fails p.step p h fail
-      by (Some k) = law.ends (asks k p) h (why, plain)
-
-keeps-all : (f : Interface → Interface) → ((x : Interface) → (f x).intf ≡ x.intf)
-    → ((x : Interface) → (f x).primary ≡ x.primary)
-    → ((x : Interface) → (f x).awaits ≡ x.awaits) → ((x : Interface) → (f x).stage ≡ x.stage)
-    → Keeps f
-keeps-all f intf primary awaits stage =
-    record { intf = intf; primary = primary; awaits = awaits; stage = stage }
-
--- the step of a connection isn't one of an enumeration
-no-enumeration : {A : Type 0} → false ≡ true → A
-no-enumeration e = absurd cc
-
--- A law goes over what is done where a request can't be made.
-pub over-unsent : (p : Purpose) (h : Host) (law : TurnLaw (at_unsent p))
-    → law.says h (failed_turn (unsent p h))
-over-unsent p h law = by p.step refl
-  where
-    fail : (g : Host) → is_enumeration p.step ≡ true
-        → law.says g (failed_turn (interface_fails p g))
-    fail g is = interface-fails (at_unsent p) law p g (is, refl)
-
-    by : (step : SequenceStep) → p.step ≡ step → law.says h (failed_turn (unsent_fails step p h))
-    by steps.CreateControl e = fail h (ap is_enumeration e)
-    by steps.CreateConnection e = resting (at_unsent p) law h
-    by steps.GiveDevice e = updated (at_unsent p) law p.intf without_device h
-        (failed_turn (interface_fails p (with_interface p.intf without_device h)))
-        (keeps-all without_device (λ x. refl) (λ x. refl) (λ x. refl) (λ x. refl))
-        (fail (with_interface p.intf without_device h) (ap is_enumeration e))
-    by step e = step-fails (at_unsent p) law step p h (λ is. (ap is_enumeration e ∙ is, refl))
+use Rattle.gb_invariants.proofs.HostChanges.{turn_of}
+use Rattle.gb_invariants.proofs.OverFailures.{asked, interface-fails, keeps-all, no-enumeration}
+use Rattle.gb_invariants.proofs.OverFailures.{resting, step-fails, told, turned, updated}
 
 -- ---- a request ended
 

@@ -22,11 +22,10 @@ holds_behind (suc more) es test s =
 -- a module is pulled and plugged again, and the front messages are delivered
 abbrev pub hot_plug : List Event
 hot_plug =
-    event.Pull 2 ∷ event.Insert 2 (kind.Gpio ∷ []) ∷ event.Deliver end.Svc ∷ event.Deliver (end.Ap 0)
-    ∷ event.Deliver (end.Module 2 0) ∷ []
+    event.Pull 2 ∷ event.Insert 2 (kind.Gpio ∷ []) ∷ event.Deliver end.Svc
+    ∷ event.Deliver (end.Ap 0) ∷ event.Deliver (end.Module 2 0) ∷ []
 
--- the same with a module of two interfaces, which is pulled by the second, and with one at its second
--- interface
+-- the same with a module of two interfaces, which is pulled by the second, and another there
 abbrev pub hot_plug_two : List Event
 hot_plug_two =
     event.Pull 3 ∷ event.Insert 2 (kind.Gpio ∷ kind.Gpio ∷ []) ∷ event.Insert 3 (kind.Gpio ∷ [])

@@ -53,8 +53,8 @@ delivering_opened = tt
 -- the lines of a script
 unfoldable pub lines_opened : ⊤
 unfolding answers answers_at answers_held boots bridge_sent bridges cancels copies gives_up holds
-    injects injects_at plugs pulls pulls_module pulls_one sends sends_on serves_held settles settles_at settles_from shows
-    stirred stirs tells_inserted tells_removed ticks times_out
+    injects injects_at plugs pulls pulls_module pulls_one sends sends_on serves_held settles
+    settles_at settles_from shows stirred stirs tells_inserted tells_removed ticks times_out
 lines_opened = tt
 
 -- the whole machine

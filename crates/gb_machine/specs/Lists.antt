@@ -1,6 +1,6 @@
 -- Words on lists that stand for maps.
-use Rattle.std.specs.Prelude.{ℕ, zero, suc, ◌+◌, ◌==◌, Bool, false, not, if◌then◌else◌, Option}
-use Rattle.std.specs.Prelude.{Some, None, List, [], ◌∷◌, slice_get}
+use Rattle.std.specs.Prelude.{ℕ, zero, suc, ◌+◌, ◌==◌, nat_le, nat_lt, Bool, false, not, ◌&&◌}
+use Rattle.std.specs.Prelude.{if◌then◌else◌, Option, Some, None, List, [], ◌∷◌, slice_get}
 use Rattle.std.specs.List.{filter}
 use Rattle.gb_base.specs.declared.refusal.Refusal.{Refusal}
 
@@ -69,6 +69,10 @@ sorted before (x ∷ xs) = in_order before x (sorted before xs)
 abbrev pub span : ℕ → ℕ → List ℕ
 span n zero = []
 span n (suc more) = n ∷ span (n + 1) more
+
+-- a number is one of so many, from n on
+abbrev pub is_within : ℕ → ℕ → ℕ → Bool
+is_within n count i = nat_le n i && nat_lt i (n + count)
 
 -- the first of so many numbers, from n on, that isn't taken
 unfoldable pub first_free : (ℕ → Bool) → ℕ → ℕ → Option ℕ

@@ -1,5 +1,6 @@
 -- The actions of starting the supervisory controller, and of plugging and pulling modules.
-use Rattle.std.specs.Prelude.{ℕ, ◌+◌, true, if◌then◌else◌, is_some, List, [], ◌∷◌, ◌++◌, length, map}
+use Rattle.std.specs.Prelude.{ℕ, ◌+◌, true, if◌then◌else◌, is_some, List, [], ◌∷◌, ◌++◌, length}
+use Rattle.std.specs.Prelude.{map}
 use Rattle.std.specs.List.{filter}
 use Rattle.gb_formats.specs.Module.{Module}
 use Rattle.gb_formats.specs.SvcRecords.{SvcAsk}
@@ -16,8 +17,7 @@ use Rattle.gb_machine.specs.Wiring.{is_wired_to}
 unfoldable pub tells_inserted : ℕ → ℕ → Action
 tells_inserted primary count = svc_asks (SvcAsk.ModuleInserted primary count 0)
 
--- The supervisory controller starts: it sends its version, HELLO, and what is plugged, module by
--- module.
+-- The supervisory controller starts: it sends its version, HELLO, and each module that is plugged.
 unfoldable pub boots : Action
 boots = by_state (λ s.
     change (λ t. record t { booted = true })
@@ -71,13 +71,13 @@ with_told n is s = record s {
 abbrev pub recalled : ℕ → List ℕ → State → State
 recalled n is s = if is_some (request_of n s.bus) then with_told n is s else s
 
--- MODULE_REMOVED of a module by its primary interface, which is remembered to tell of all of them
+-- MODULE_REMOVED of a module by its primary interface; that it told of these is remembered
 unfoldable pub tells_removed : ℕ → List ℕ → Action
 tells_removed primary is = by_state (λ s.
     svc_asks (SvcAsk.ModuleRemoved primary) ▸ change (recalled (next_number s.bus) is))
 
--- A module is pulled, of which this is a part: its interfaces one after another, and the supervisory
--- controller tells it once it has started.
+-- A module is pulled, of which this is a part: its interfaces one after another, and the
+-- supervisory controller tells it once it has started.
 unfoldable pub pulls_module : Plugged → Action
 pulls_module p = by_state (λ s.
     each (interfaces_of p) pulls_one

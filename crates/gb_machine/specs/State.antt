@@ -16,8 +16,8 @@ pub record Port : Type 0 where
   pub level : ℕ
   pub device : Option ℕ
 
--- What is plugged at an interface: a part of a module, which has so many interfaces from its primary
--- interface on.
+-- What is plugged at an interface: a part of a module, which has so many interfaces from its
+-- primary interface on.
 pub record Plugged : Type 0 where
   pub intf : ℕ
   pub primary : ℕ

@@ -1,6 +1,6 @@
 -- The two queues of the supervisory controller's connection, as laws speak of them.
-use Rattle.std.specs.Prelude.{◌≡◌, ℕ, ◌+◌, ◌==◌, nat_le, nat_lt, Bool, true, false, not, ◌&&◌}
-use Rattle.std.specs.Prelude.{Option, Some, None, Result, Ok, List, [], ◌∷◌}
+use Rattle.std.specs.Prelude.{◌≡◌, ℕ, ◌==◌, Bool, true, false, not, ◌&&◌, Option, Some, None}
+use Rattle.std.specs.Prelude.{Result, Ok, List, [], ◌∷◌}
 use Rattle.std.specs.List.{list_any}
 use Rattle.gb_base.specs.declared.end.End.TheVariants as end
 use Rattle.gb_base.specs.declared.end.Side.{Side}
@@ -10,7 +10,7 @@ use Rattle.gb_formats.specs.Records.{PayloadFault}
 use Rattle.gb_formats.specs.SvcRecords.{SvcAsk, read_svc_ask}
 use Rattle.gb_machine.specs.Bus.{Ask, Bus, Connection, Item, Reply, Request, connection_of, queue}
 use Rattle.gb_machine.specs.Bus.{request_of}
-use Rattle.gb_machine.specs.Lists.{first}
+use Rattle.gb_machine.specs.Lists.{first, is_within}
 use Rattle.gb_machine.specs.Runs.{Moment}
 
 -- what waits toward a side of a connection, where it is there
@@ -85,12 +85,12 @@ creates i _ = false
 abbrev pub is_connection_request : ℕ → Request → Bool
 is_connection_request i r = is_for_link i r && not (is_enumeration_request i r)
 
--- a record of the insertion of a module that has an interface
+-- a record of the insertion of a module that has this interface
 abbrev pub inserts : ℕ → Result SvcAsk PayloadFault → Bool
-inserts i (Ok (SvcAsk.ModuleInserted p count flags)) = nat_le p i && nat_lt i (p + count)
+inserts i (Ok (SvcAsk.ModuleInserted p count flags)) = is_within p count i
 inserts i _ = false
 
--- A request is MODULE_INSERTED of a module that has an interface.
+-- A request is MODULE_INSERTED of a module that has this interface.
 abbrev pub is_insertion : ℕ → Request → Bool
 is_insertion i r = inserts i (read_svc_ask r.kind r.payload)
 

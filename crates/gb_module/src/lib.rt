@@ -1,5 +1,5 @@
-//! A module by itself: the bytes of its manifest, its CPorts with a device each, and
-//! its Control responder.
+//! One interface of a module by itself: the bytes of its manifest, its CPorts with a device each,
+//! and its Control responder.
 #![tactic(auto)]
 
 mod control;

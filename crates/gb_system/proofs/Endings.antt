@@ -52,7 +52,8 @@ lost n how s unended =
     let o = opened n s.bus unended in record {
       request = o.0;
       made = o.1;
-      awaited = awaited n (gave_up n how s.bus) (late (in-behind n s.bus.given_up (n ∷ []) (inl refl)));
+      awaited = awaited n (gave_up n how s.bus)
+          (late (in-behind n s.bus.given_up (n ∷ []) (inl refl)));
     }
 
 -- ---- connections that drain

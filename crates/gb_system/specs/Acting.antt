@@ -53,8 +53,8 @@ AreAsks (Act.Tell e ∷ rest) = AreAsks rest
 AreAsks (_ ∷ rest) = ⊥
 
 -- Acts are possible at a bus, one after another: requests fit, and a connection that is made has
--- ends that no other has. Behind a request others are made at most, and none behind that of a
--- connection that is made.
+-- ends that no other has. Behind a request there are only tells and further requests, and behind
+-- that of a connection that is made nothing.
 abbrev pub ArePossible : List Act → Bus → Type 0
 ArePossible [] b = ⊤
 ArePossible (Act.Ask q ∷ rest) b = IsAskable q.kind q.payload × AreAsks rest

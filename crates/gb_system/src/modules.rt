@@ -113,8 +113,7 @@ impl Modules {
         }
     }
 
-    /// The interfaces of the module that has an interface, None exactly where nothing is plugged
-    /// there.
+    /// The interfaces of the module that is plugged at an interface, None exactly where none is.
     pub fn span(&self, intf: u8) -> Option<Span>
         ensures is { result ≡ option_map span_of (part_at intf self.now) }
         ensures within { IfSome result (λ m. IsWithin m.primary m.count) }
@@ -195,8 +194,8 @@ impl Modules {
         self.plugged.len()
     }
 
-    /// The interfaces of the module whose primary one has this place in the order of interfaces,
-    /// None where it is no primary one.
+    /// The interfaces of a module, by the place of its primary one among all that are plugged. None
+    /// where another stands there.
     pub fn told_at(&self, i: usize) -> Option<Span>
         ensures { result ≡ option_and_then told_span (slice_get self.now i) }
     {

@@ -31,8 +31,8 @@ use gb_payload::svc_kinds::{HELLO, MODULE_INSERTED, MODULE_REMOVED, PROTOCOL_VER
 const INTERFACES_END: u8 = 32;
 
 impl Parties {
-    /// The supervisory controller starts: it sends its version, HELLO, and what is plugged, module
-    /// by module.
+    /// The supervisory controller starts: it sends its version, HELLO, and each module that is
+    /// plugged.
     pub fn boot(&mut self, told: &mut Entries) -> Result<(), Stop>
         ensures step { (s : State) → PartiesStand self.old s
             → EventAs self.new s event.Boot told.old told.new result }
@@ -51,8 +51,7 @@ impl Parties {
         Ok(())
     }
 
-    /// A module is plugged that has an interface of each of these kinds, from this one, 2 to
-    /// 31, on.
+    /// A module is plugged with an interface for each of these kinds. Its primary one is 2 to 31.
     pub fn insert(&mut self, intf: u8, kinds: &Kinds, told: &mut Entries) -> Result<(), Stop>
         requires intf { IsIntf intf }
         requires kinds { HasKinds kinds.now }
@@ -96,7 +95,7 @@ impl Parties {
         Ok(())
     }
 
-    /// The module that has an interface is pulled: all of its interfaces, one after another.
+    /// The module that has this interface is pulled: all of its interfaces, one after another.
     pub fn pull(&mut self, intf: u8, told: &mut Entries) -> Result<(), Stop>
         ensures step { (s : State) → PartiesStand self.old s
             → EventAs self.new s (event.Pull intf) told.old told.new result }
@@ -198,7 +197,7 @@ impl Parties {
     }
 
     /// MODULE_REMOVED of a module by its primary interface, once the supervisory controller has
-    /// started. Whatever interfaces it is to tell of, what is told is the same.
+    /// started. Of which interfaces it tells is remembered for the laws alone.
     fn tell_removed(&mut self, primary: u8, told: &mut Entries) -> Result<(), OutOfMemory>
         ensures step { OnOk result ((s : State) (all : List ℕ) → PartsStand [] self.old s
             → Does self.new (when s.booted (tells_removed primary all)) s told.old told.new) }

@@ -15,7 +15,7 @@ use Rattle.gb_invariants.proofs.HostChanges.{at_unsent, changes-ask, end_of, hos
 use Rattle.gb_invariants.proofs.HostChanges.{step_behind, to_close, to_connect, to_disconnect}
 use Rattle.gb_invariants.proofs.HostChanges.{to_enumerate, to_go_on}
 use Rattle.gb_invariants.proofs.{Awaiting.none-some, Awaiting.not-both, Found.in-ordered}
-use Rattle.gb_invariants.proofs.{Lists.in-without, OverTurns.over-turn, OverTurns.over-unsent}
+use Rattle.gb_invariants.proofs.{Lists.in-without, OverTurns.over-turn, OverFailures.over-unsent}
 use Rattle.gb_invariants.proofs.HostChanges.{Notice, turn_of}
 use Rattle.gb_laws.proofs.enumerations.AskedWaits.{AsksIn, WaitsFewer, asked-alone, asks-behind}
 use Rattle.gb_laws.proofs.enumerations.AskedWaits.{is_power_step}

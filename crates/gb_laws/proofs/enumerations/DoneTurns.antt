@@ -11,7 +11,7 @@ use Rattle.gb_machine.specs.{Failures.unsent, SequenceSteps.is_enumeration, Sequ
 use Rattle.gb_invariants.proofs.HostChanges.{FailsAt, Finds, HostChange, HostEnd, IsFor, Occasion}
 use Rattle.gb_invariants.proofs.HostChanges.{TurnLaw, at_unsent, end_of, host_after}
 use Rattle.gb_invariants.proofs.Lists.{filter-in, in-at_first, in-without}
-use Rattle.gb_invariants.proofs.{Found.in-ordered, OverTurns.over-unsent}
+use Rattle.gb_invariants.proofs.{Found.in-ordered, OverFailures.over-unsent}
 use Rattle.gb_laws.proofs.enumerations.DoneStays.{KeepsDone, first-then, keeps-changed}
 use Rattle.gb_laws.proofs.enumerations.DoneStays.{keeps-failed, keeps-same}
 use Rattle.gb_laws.proofs.enumerations.DoneStays.{keeps-then, keeps-waiting}

@@ -11,7 +11,7 @@ use Rattle.gb_machine.specs.{Waits.awaits_nothing}
 use Rattle.gb_invariants.proofs.HostChanges.{Finds, HostChange, HostEnd, IsLast, at_unsent, end_of}
 use Rattle.gb_invariants.proofs.HostChanges.{host_after}
 use Rattle.gb_invariants.proofs.{Found.in-ordered, Lists.in-at_first, Lists.in-without}
-use Rattle.gb_invariants.proofs.{OverTurns.over-unsent}
+use Rattle.gb_invariants.proofs.{OverFailures.over-unsent}
 
 -- an interface is enumerated
 pub record IsDone (i : ℕ) (xs : List Interface) : Type 0 where

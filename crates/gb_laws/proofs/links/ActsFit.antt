@@ -24,7 +24,7 @@ use Rattle.gb_machine.specs.SequenceSteps.{purpose}
 use Rattle.gb_invariants.proofs.HostChanges.{Finds, HostChange, HostEnd, IsClosingFor, IsFor}
 use Rattle.gb_invariants.proofs.HostChanges.{IsOfNone, MayTurnTo, Occasion, TurnLaw, acts_by}
 use Rattle.gb_invariants.proofs.HostChanges.{at_notice, at_unsent, by_disconnect, by_idle, end_of}
-use Rattle.gb_invariants.proofs.{Lists.each-append, OverTurns.over-turn, OverTurns.over-unsent}
+use Rattle.gb_invariants.proofs.{Lists.each-append, OverTurns.over-turn, OverFailures.over-unsent}
 use Rattle.gb_invariants.proofs.Outcomes.{same-number}
 use Rattle.gb_invariants.proofs.Lists.{filter-in, found-in, in-filter}
 use Rattle.gb_invariants.proofs.HostChanges.{Notice, turn_of}

@@ -16,7 +16,7 @@ use Rattle.gb_invariants.proofs.HostChanges.{HostChange, HostEnd, Occasion, Turn
 use Rattle.gb_invariants.proofs.HostChanges.{at_unsent, end_of, host_after}
 use Rattle.gb_invariants.proofs.Lists.{each-from, each-in, each-weaker, found-in, two-filter}
 use Rattle.gb_invariants.proofs.Lists.{two-pushed}
-use Rattle.gb_invariants.proofs.{Awaiting.not-both, OverTurns.over-turn, OverTurns.over-unsent}
+use Rattle.gb_invariants.proofs.{Awaiting.not-both, OverTurns.over-turn, OverFailures.over-unsent}
 use Rattle.gb_invariants.proofs.HostChanges.{Notice, turn_of}
 use Rattle.gb_laws.proofs.links.LinkHosts.{awaits-link, state-link}
 use Rattle.gb_laws.proofs.links.LinkLists.{is-link, link-is}

@@ -19,7 +19,7 @@ use Rattle.gb_invariants.proofs.HostChanges.{MayTurnTo, Occasion, TurnLaw, acts_
 use Rattle.gb_invariants.proofs.HostChanges.{at_unsent, by_disconnect, by_idle, end_of, host_after}
 use Rattle.gb_invariants.proofs.Lists.{found-in, in-behind, in-front, in-without}
 use Rattle.gb_invariants.proofs.{Awaiting.same-some, Found.in-first, OverTurns.over-turn}
-use Rattle.gb_invariants.proofs.{OverTurns.over-unsent}
+use Rattle.gb_invariants.proofs.{OverFailures.over-unsent}
 use Rattle.gb_invariants.proofs.HostChanges.{Notice, turn_of}
 use Rattle.gb_laws.proofs.{links.LinkEnds.resumed, links.LinkEnds.waits-for, links.Links.HostFits}
 use Rattle.gb_laws.proofs.{links.Links.IsDue}

@@ -14,7 +14,7 @@ use Rattle.gb_machine.specs.{Waits.waiting}
 use Rattle.gb_invariants.proofs.HostChanges.{HostChange, HostEnd, Occasion, TurnLaw, at_notice}
 use Rattle.gb_invariants.proofs.HostChanges.{at_unsent, end_of, host_after}
 use Rattle.gb_invariants.proofs.{Found.in-first, Lists.in-without, OverTurns.over-turn}
-use Rattle.gb_invariants.proofs.{OverTurns.over-unsent}
+use Rattle.gb_invariants.proofs.{OverFailures.over-unsent}
 use Rattle.gb_invariants.proofs.HostChanges.{Notice, turn_of}
 use Rattle.gb_laws.proofs.links.LinkHosts.{awaits-link, same-link, state-link, then-same}
 use Rattle.gb_laws.proofs.links.Links.{SameLink}

@@ -15,7 +15,7 @@ use Rattle.gb_invariants.proofs.HostChanges.{Finds, HostChange, HostEnd, IsOfNon
 use Rattle.gb_invariants.proofs.HostChanges.{TurnLaw, acts_by, at_notice, at_unsent, end_of}
 use Rattle.gb_invariants.proofs.HostChanges.{host_after}
 use Rattle.gb_invariants.proofs.{Lists.found-in, Lists.in-filter, OverTurns.over-turn}
-use Rattle.gb_invariants.proofs.{OverTurns.over-unsent}
+use Rattle.gb_invariants.proofs.{OverFailures.over-unsent}
 use Rattle.gb_invariants.proofs.HostChanges.{Notice, turn_of}
 use Rattle.gb_laws.proofs.links.LinkSources.{LinksFrom, change-from}
 

@@ -17,7 +17,7 @@ use Rattle.gb_invariants.proofs.HostChanges.{Finds, HostChange, HostEnd, IsFor, 
 use Rattle.gb_invariants.proofs.HostChanges.{Occasion, TurnLaw, at_insertion, at_notice, at_unsent}
 use Rattle.gb_invariants.proofs.HostChanges.{end_of, host_after, turn_of}
 use Rattle.gb_invariants.proofs.Lists.{in-at_first, in-without}
-use Rattle.gb_invariants.proofs.{Found.in-ordered, OverTurns.over-turn, OverTurns.over-unsent}
+use Rattle.gb_invariants.proofs.{Found.in-ordered, OverTurns.over-turn, OverFailures.over-unsent}
 use Rattle.gb_laws.proofs.links.LinkActs.{ServedHost, as_before, host-served, with_more}
 
 -- an interface of a module is known

@@ -11,6 +11,7 @@ use Rattle.gb_machine.specs.Plugging.{parts_of, plugs, tells_inserted}
 use Rattle.gb_machine.specs.State.{Past, State}
 use Rattle.gb_machine.specs.{Actions.when, Bus.next_number, Members.EachTwo}
 use Rattle.gb_machine.specs.{Lists.span, Modules.is_plugged, SvcQueues.is_told}
+use Rattle.gb_machine.specs.Lists.{is_within}
 use Rattle.gb_invariants.proofs.{Awaiting.not-both, Awaiting.same-some, Found.none-any}
 use Rattle.gb_laws.proofs.marks.MarkTells.{AfterAsk, MarksAfter, QueueIsAsked, after-ask}
 use Rattle.gb_laws.proofs.marks.MarkTells.{tells-inserted, told, untold}
@@ -19,7 +20,7 @@ use Rattle.gb_laws.proofs.marks.Marks.{known_at, mark_in, marks, notice_of, pull
 use Rattle.gb_laws.proofs.marks.Marks.{reads-plugged, reads-told}
 use Rattle.gb_laws.proofs.marks.PlugParts.{CanPlug, all-plugged, now, now-differ, now-other}
 use Rattle.gb_laws.proofs.marks.PlugParts.{now-there, now-whole, powered_all}
-use Rattle.gb_laws.proofs.marks.Wholes.{AreElsewhere, AreWhole, IsRange, is_within, plugged-none}
+use Rattle.gb_laws.proofs.marks.Wholes.{AreElsewhere, AreWhole, IsRange, plugged-none}
 use Rattle.gb_laws.proofs.marks.Wholes.{plugged_at, span-in, true-within, within-true}
 
 -- ---- one insertion is told

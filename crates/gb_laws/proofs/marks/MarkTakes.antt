@@ -17,6 +17,7 @@ use Rattle.gb_machine.specs.Host.{first_host, interface_of, link_of}
 use Rattle.gb_machine.specs.{Delivery.popped, Delivery.without_front, HostServing.served_on}
 use Rattle.gb_machine.specs.{Lists.behind_first, Lists.first, Members.IsIn, Runs.Moment, Runs.after}
 use Rattle.gb_machine.specs.SvcQueues.{is_told, items_in}
+use Rattle.gb_machine.specs.Lists.{is_within}
 use Rattle.gb_invariants.proofs.{Awaiting.not-both, Awaiting.same-some, Found.find-changed}
 use Rattle.gb_invariants.proofs.{ItemChanges.first-in, Numbers.found-by_number}
 use Rattle.gb_invariants.proofs.{Outcomes.same-number, Selves.ap-no-far, Selves.front-self}
@@ -28,7 +29,7 @@ use Rattle.gb_laws.proofs.points.PointParts.{Basis, IsNoticed, resting}
 use Rattle.gb_laws.proofs.{links.LinkFrom.Linked, points.Places.place-is}
 use Rattle.gb_laws.proofs.{links.Removing.removed-absent}
 use Rattle.gb_laws.proofs.marks.MarkKnown.{IsInserted}
-use Rattle.gb_laws.proofs.marks.Wholes.{is_within, true-within}
+use Rattle.gb_laws.proofs.marks.Wholes.{true-within}
 
 -- no insertion of an interface is handled at a moment
 abbrev pub IsUninserted : Moment → ℕ → Type 0

@@ -16,11 +16,12 @@ use Rattle.gb_machine.specs.{HostServing.serves_svc, Lists.at_first, Members.Eac
 use Rattle.gb_machine.specs.{Members.IsIn}
 use Rattle.gb_machine.specs.{State.State, SvcQueues.is_told, SvcQueues.items_in}
 use Rattle.gb_machine.specs.{SvcQueues.svc_items}
+use Rattle.gb_machine.specs.Lists.{is_within}
 use Rattle.gb_invariants.proofs.Awaiting.{none-some, not-both, same-some}
 use Rattle.gb_invariants.proofs.{BusChanges.KeepsRequests, Found.found-first}
 use Rattle.gb_invariants.proofs.{Outcomes.is-same, Outcomes.same-number}
 use Rattle.gb_invariants.proofs.ModuleHosts.{in-module}
-use Rattle.gb_laws.proofs.marks.Wholes.{AreElsewhere, AreWhole, IsRange, is_within, plugged_at}
+use Rattle.gb_laws.proofs.marks.Wholes.{AreElsewhere, AreWhole, IsRange, plugged_at}
 
 -- what a request of the supervisory controller makes the application processor take notice of
 abbrev pub notice_of : ℕ → List ℕ → Option HostEvent

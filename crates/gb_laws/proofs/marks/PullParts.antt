@@ -1,5 +1,4 @@
--- What stays of the supervisory controller's connection where a module is pulled, and what is
--- plugged then.
+-- What stays on the supervisory controller's connection, and plugged, where a module is pulled.
 use Rattle.std.proofs.Common.{Bool, List, None, Some, ap, cond, false, inl, inr, refl, subst, sym}
 use Rattle.std.proofs.Common.{true, ℕ, ⊎_elim, [], ◌∙◌, ◌∷◌, ◌≡◌, ◌≢◌}
 use Rattle.std.specs.List.{find, list_any}

@@ -8,6 +8,7 @@ use Rattle.gb_machine.specs.{Lists.span, Members.EachTwo, Members.IsIn, Modules.
 use Rattle.gb_machine.specs.{Modules.is_plugged_at, State.Plugged}
 use Rattle.gb_machine.specs.Lists.{at_first}
 use Rattle.gb_machine.specs.Refusals.{is_beyond}
+use Rattle.gb_machine.specs.Lists.{is_within}
 use Rattle.gb_invariants.proofs.Awaiting.{none-some, not-both, same-some}
 use Rattle.gb_invariants.proofs.{Found.find-none, Lists.found-in, Lists.one-by}
 use Rattle.gb_invariants.proofs.Outcomes.{both-true, is-same, same-number}
@@ -77,10 +78,6 @@ abbrev pub AreWhole : List Plugged → Type 0
 AreWhole ms = (x : Plugged) → IsIn x ms → IsWhole ms x
 
 -- ---- spans
-
--- an interface is one of so many, from this one on
-abbrev pub is_within : ℕ → ℕ → ℕ → Bool
-is_within p count i = nat_le p i && nat_lt i (p + count)
 
 pub within-true : (p count i : ℕ) → is_within p count i ≡ true → (p ≤ i) × (i < p + count)
 within-true p count i e =

@@ -14,7 +14,8 @@ use Rattle.gb_machine.specs.{Host.Host, Members.Each}
 use Rattle.gb_invariants.proofs.HostChanges.{Finds, HostChange, HostEnd, IsOfNone, MayTurnTo}
 use Rattle.gb_invariants.proofs.HostChanges.{Occasion, TurnLaw, acts_by, at_notice, at_unsent}
 use Rattle.gb_invariants.proofs.HostChanges.{end_of}
-use Rattle.gb_invariants.proofs.OverTurns.{over-turn, over-unsent}
+use Rattle.gb_invariants.proofs.OverTurns.{over-turn}
+use Rattle.gb_invariants.proofs.OverFailures.{over-unsent}
 use Rattle.gb_invariants.proofs.HostChanges.{Notice, turn_of}
 
 -- what an entry tells to be closing is so

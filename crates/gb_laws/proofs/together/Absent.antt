@@ -15,6 +15,7 @@ use Rattle.gb_machine.specs.SvcQueues.{HandlesInsertion, HandlesRemoval, inserts
 use Rattle.gb_machine.specs.{HostServing.served_on, LawsHotPlug.AbsentBetween}
 use Rattle.gb_machine.specs.{LawsHotPlug.AbsentIsUnconnected, Lists.first, Members.IsIn}
 use Rattle.gb_machine.specs.{State.State, Wiring.is_at}
+use Rattle.gb_machine.specs.Lists.{is_within}
 use Rattle.gb_invariants.proofs.Awaiting.{not-both, same-some}
 use Rattle.gb_invariants.proofs.{Lists.each-from, Numbers.found-by_number}
 use Rattle.gb_invariants.proofs.{Outcomes.same-number}
@@ -35,7 +36,7 @@ use Rattle.gb_laws.proofs.{points.Points.Law, points.Points.upon, links.Removing
 use Rattle.gb_laws.proofs.{runs.SettleQueues.IsFarEnd}
 use Rattle.gb_laws.proofs.{runs.SettleQueues.place-found, steps.Steps.over-step}
 use Rattle.gb_laws.proofs.marks.MarkHosts.{named-one}
-use Rattle.gb_laws.proofs.marks.Wholes.{is_within, true-within}
+use Rattle.gb_laws.proofs.marks.Wholes.{true-within}
 
 -- ---- no live connection names an absent interface
 

@@ -24,8 +24,8 @@ loop-i-preserved c = λ s st.
     let m = c.loop-i.invariant s st in
     elim c.match-told_at.branch [
       | in-Some+in_ok-tell_inserted w ↦
-          subst (λ (x : Parties). IsBooting x s (c.loop-i.i + 1) c.count-i-end.result c.args.told.now
-          c.match-told_at.told)
+          subst (λ (x : Parties). IsBooting x s (c.loop-i.i + 1) c.count-i-end.result
+          c.args.told.now c.match-told_at.told)
           (sym w.self-is)
           (subst (λ (es : List Entry). IsBooting w.tell_inserted.new.self s (c.loop-i.i + 1)
           c.count-i-end.result c.args.told.now es) (sym w.told-is)
@@ -33,11 +33,11 @@ loop-i-preserved c = λ s st.
           w.in-Some.span c.loop-i.told w.tell_inserted.new.told c.told_at.result m
           c.loop-i-test.true c.told_at.ensures w.in-Some.is w.in_ok-tell_inserted.ensures.step))
       | in_default w ↦
-          subst (λ (x : Parties). IsBooting x s (c.loop-i.i + 1) c.count-i-end.result c.args.told.now
-          c.match-told_at.told)
+          subst (λ (x : Parties). IsBooting x s (c.loop-i.i + 1) c.count-i-end.result
+          c.args.told.now c.match-told_at.told)
           (sym w.self-is)
-          (subst (λ (es : List Entry). IsBooting c.loop-i.self s (c.loop-i.i + 1) c.count-i-end.result
-          c.args.told.now es) (sym w.told-is)
+          (subst (λ (es : List Entry). IsBooting c.loop-i.self s (c.loop-i.i + 1)
+          c.count-i-end.result c.args.told.now es) (sym w.told-is)
           (boot-past c.loop-i.self s c.loop-i.i c.count-i-end.result c.told_at.result m
           c.loop-i-test.true c.told_at.ensures w.in_default.not-Some))
     ]

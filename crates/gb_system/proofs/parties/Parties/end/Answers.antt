@@ -31,5 +31,6 @@ returns-in_ok-close_drained-in-Ap c = record {
       let noticed = c.in_ok-notice.ensures.step _ told.stand follow.turn in
       does-then told (follows-then c.args.over c.args.outcome there noticed
       (behind-ap there c.in-Ap.is
-      (c.in_ok-close_drained-in-Ap.ensures.step _ noticed.stand (follow.idle c.args.over.connection))));
+      (c.in_ok-close_drained-in-Ap.ensures.step _ noticed.stand
+      (follow.idle c.args.over.connection))));
 }
