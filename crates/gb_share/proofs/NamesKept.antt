@@ -24,11 +24,10 @@ use Rattle.gb_machine.specs.HostActs.{opened_with, turns, with_awaited}
 use Rattle.gb_machine.specs.LineActions.{stirred, stirs}
 use Rattle.gb_machine.specs.OwnAsking.{far_asks, far_asks_all, svc_asks}
 use Rattle.gb_machine.specs.Plugging.{boots, plugs, pulls, pulls_module, pulls_one, recalled}
-use Rattle.gb_machine.specs.Plugging.{tells_inserted, tells_removed}
-use Rattle.gb_machine.specs.Plugging.{with_told}
+use Rattle.gb_machine.specs.Plugging.{tells_inserted, tells_removed, with_told}
 use Rattle.gb_machine.specs.Sending.{Draft}
 use Rattle.gb_machine.specs.SequenceSteps.{is_for_connection}
-use Rattle.gb_machine.specs.State.{State}
+use Rattle.gb_machine.specs.State.{Plugged, State}
 use Rattle.gb_machine.specs.Turns.{Act, Asking, Failing, Making, Turn}
 use Rattle.gb_machine.specs.Waits.{awaits}
 use Rattle.gb_machine.specs.Wires.{shuts, unwires, wires}

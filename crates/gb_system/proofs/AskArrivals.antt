@@ -16,20 +16,16 @@ use Rattle.gb_formats.specs.Message.{Message}
 use Rattle.gb_formats.specs.Wire.{raw_message}
 use Rattle.gb_invariants.proofs.Awaiting.{same-some}
 use Rattle.gb_laws.proofs.opened.FarItems.{far-numbered}
-use Rattle.gb_laws.proofs.links.LinkBuses.{Linked}
-use Rattle.gb_laws.proofs.links.LinkChanges.{linked-popped, linked-replied}
 use Rattle.gb_invariants.proofs.Found.{find-changed}
-use Rattle.gb_laws.proofs.runs.Reached.{reached-linked}
 use Rattle.gb_machine.proofs.Opened.{machine_opened}
 use Rattle.gb_machine.proofs.Steps.{delivers-arrives}
 use Rattle.gb_machine.specs.Actions.{given}
 use Rattle.gb_machine.specs.Arriving.{arrives, asked_at, by_label, raw_taken, takes}
-use Rattle.gb_machine.specs.Bus as machine
 use Rattle.gb_machine.specs.Bus.{Ask, Connection, Item, Place, Raw, RawReply, Reply, Request}
 use Rattle.gb_machine.specs.Bus.{connection_of, end_of, has_number, place_of, queue, request_of}
-use Rattle.gb_machine.specs.Delivery.{popped, replied, without_front}
+use Rattle.gb_machine.specs.Delivery.{popped, without_front}
 use Rattle.gb_machine.specs.Incoming.{Incoming, incoming, incoming_raw, is_request, raw_request}
-use Rattle.gb_machine.specs.Incoming.{reply_item, request_in}
+use Rattle.gb_machine.specs.Incoming.{request_in}
 use Rattle.gb_machine.specs.Lists.{first}
 use Rattle.gb_machine.specs.Refusals.{is_end_unplugged}
 use Rattle.gb_machine.specs.State.{State}

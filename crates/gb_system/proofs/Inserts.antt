@@ -5,41 +5,31 @@ use Rattle.std.proofs.Common.{arith, map, ◌<◌, ◌+◌, zero, suc, ◌||◌,
 use Rattle.std.proofs.lemmas.Bool.Decides.{nat_tests}
 use Rattle.gb_base.specs.declared.end.Side.TheVariants as side
 use Rattle.gb_base.specs.declared.entry.Entry.{Entry}
-use Rattle.gb_base.specs.declared.event.Event.{Event}
 use Rattle.gb_base.specs.declared.event.Event.TheVariants as event
 use Rattle.gb_base.specs.declared.event.Kind.{Kind}
 use Rattle.gb_base.specs.declared.refusal.Refusal.TheVariants as why
 use Rattle.gb_formats.specs.Module.{Module, module_of_kind, module_raw}
-use Rattle.gb_formats.specs.Results.{most_payload}
 use Rattle.gb_invariants.proofs.Awaiting.{not-both}
-use Rattle.gb_invariants.proofs.Lists.{each-from, each-in}
-use Rattle.gb_laws.proofs.together.Manifests.{kind-short, raw-short, short-plugged}
 use Rattle.gb_laws.proofs.runs.Reached.{reached-has}
 use Rattle.gb_laws.proofs.runs.Runs.{weaker}
 use Rattle.gb_laws.proofs.svc.WiredRuns.{WiredTo, wired-throughout}
 use Rattle.gb_laws.proofs.svc.WiredWell.{WiredFit}
-use Rattle.gb_machine.proofs.Conditions.{unmet}
 use Rattle.gb_machine.proofs.Opened.{machine_opened}
-use Rattle.gb_machine.specs.Actions.{change, when, ◌▸◌}
-use Rattle.gb_machine.specs.Events.{does}
 use Rattle.gb_machine.specs.Lists.{Condition, first_met, span}
-use Rattle.gb_machine.specs.Modules.{is_plugged, module_at, plugged}
+use Rattle.gb_machine.specs.Modules.{is_plugged, module_at}
 use Rattle.gb_machine.specs.OwnAsking.{far_asks}
-use Rattle.gb_machine.specs.Plugging.{plugs, tells_inserted, with_plugged}
-use Rattle.gb_machine.specs.Ports.{is_powered, powered}
+use Rattle.gb_machine.specs.Plugging.{plugs, tells_inserted}
+use Rattle.gb_machine.specs.Ports.{is_powered}
 use Rattle.gb_machine.specs.Reached.{OfARun}
-use Rattle.gb_machine.specs.Refusals.{has_no_label, insert_conditions, longest_manifest, refusal}
+use Rattle.gb_machine.specs.Refusals.{has_no_label, insert_conditions, longest_manifest}
 use Rattle.gb_machine.specs.Refusals.{is_beyond, is_taken}
 use Rattle.gb_machine.specs.State.{Plugged, State}
-use Rattle.gb_switch.specs.Stands as switch
-use Rattle.gb_switch.specs.declared.ladder.Ladder.{Ladder}
-use Rattle.gb_system.proofs.Doings.{does-as, does-by_state, does-change, does-then, does-unless}
-use Rattle.gb_system.proofs.Doings.{does-when}
+use Rattle.gb_system.proofs.Doings.{does-as}
 use Rattle.gb_system.proofs.Plugged.{there-is}
 use Rattle.gb_system.specs.Acting.{IsAskable}
 use Rattle.gb_system.specs.Doing.{Does, IsDone}
 use Rattle.gb_system.specs.Drafts.{own_ask}
-use Rattle.gb_system.specs.Stands.{IsShort, PartsStand}
+use Rattle.gb_system.specs.Stands.{PartsStand}
 use Rattle.gb_system.specs.declared.parties.Parties.{Parties}
 use Rattle.std.specs.List.{list_any}
 use Rattle.std.proofs.lemmas.Bool.{cases_lt}

@@ -13,7 +13,6 @@ use Rattle.gb_invariants.proofs.Lists.{each-filter}
 use Rattle.gb_machine.proofs.Opened.{machine_opened}
 use Rattle.gb_machine.specs.Actions.{Action, change, each, nothing, when, ◌▸◌, given}
 use Rattle.gb_machine.specs.Bus.{next_number, request_of}
-use Rattle.gb_machine.specs.Events.{does}
 use Rattle.gb_machine.specs.Lists.{first_met, span}
 use Rattle.gb_machine.specs.Modules.{is_plugged, is_plugged_at, unplugged, interfaces_of, part_at}
 use Rattle.gb_machine.specs.OwnAsking.{far_asks, svc_asks}

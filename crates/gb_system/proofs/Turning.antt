@@ -1,7 +1,7 @@
 -- What the application processor does of its own is possible, since its connections go
 -- with the bus.
 use Rattle.std.proofs.Common.{◌≡◌, ◌≤◌, ◌<◌, ℕ, true, false, Option, Some, None, is_none, List}
-use Rattle.std.proofs.Common.{option_map, [], ◌∷◌, ◌==◌, length, refl, sym, ap, ◌∙◌, inl, inr}
+use Rattle.std.proofs.Common.{[], ◌∷◌, ◌==◌, length, refl, sym, ap, ◌∙◌, inl, inr}
 use Rattle.std.proofs.Common.{subst, arith, ◌++◌}
 use Rattle.gb_base.specs.declared.end.End.{End}
 use Rattle.gb_base.specs.declared.end.End.TheVariants as end
@@ -44,7 +44,7 @@ use Rattle.gb_machine.specs.HostActs.{notices}
 use Rattle.gb_machine.specs.HostServing.{host_serves}
 use Rattle.gb_machine.specs.HostTurns.{host_inserted, host_removed, links_left, links_of}
 use Rattle.gb_machine.specs.HostTurns.{one_by_one, without_interface}
-use Rattle.gb_machine.specs.Incoming.{Incoming, incoming, request_in}
+use Rattle.gb_machine.specs.Incoming.{Incoming, request_in}
 use Rattle.gb_machine.specs.Lists.{first, span}
 use Rattle.gb_machine.specs.Members.{IsIn}
 use Rattle.gb_machine.specs.Reached.{OfARun}

@@ -1,6 +1,5 @@
 -- The first condition that is met is the machine's.
-use Rattle.std.proofs.Common.{[], ◌∷◌, sym, ap, ◌∙◌, arith}
-use Rattle.std.proofs.lemmas.Bool.Decides.{nat_tests}
+use Rattle.std.proofs.Common.{[], ◌∷◌, sym, ap, ◌∙◌}
 use Rattle.gb_base.specs.declared.refusal.Refusal.TheVariants as why
 use Rattle.gb_machine.specs.Lists.{first_met}
 use Rattle.gb_system.proofs.Inserts.{insert-beyond, insert-fits, insert-large, insert-occupied}

@@ -1,5 +1,5 @@
 -- One interface is pulled as the machine does.
-use Rattle.std.proofs.Common.{[], slice_index_or, refl, sym, ap, ◌∙◌, subst}
+use Rattle.std.proofs.Common.{[], slice_index_or, sym, ◌∙◌, subst}
 use Rattle.std.proofs.lemmas.Grind.{get_or_default_zero}
 use Rattle.gb_machine.specs.Actions.{each}
 use Rattle.gb_machine.specs.Wires.{unwires}
