@@ -112,7 +112,9 @@ static int report(bool hex)
             room = size;
             text = realloc(text, room);
         }
-        fwrite(text, 1, gbus_text(&bus, 0, text, room), stdout);
+        size = gbus_text(&bus, 0, text, room);
+        if (size > 0)
+            fwrite(text, 1, size, stdout);
     }
     free(text);
     gbus_close(&bus);

@@ -1,5 +1,5 @@
 -- What a line does to a reporter.
-use Rattle.std.specs.Prelude.{◌≡◌, ℕ, ◌+◌, Bool, true, false, is_err, if◌then◌else◌, Option, Some}
+use Rattle.std.specs.Prelude.{◌≡◌, ℕ, ◌+◌, Bool, true, false, is_err, if◌then◌else◌, Some}
 use Rattle.std.specs.Prelude.{None, Result, Ok, Err, ⊤, List, [], ◌∷◌, ◌++◌}
 use Rattle.std.specs.String.{string_bytes}
 use Rattle.gb_base.specs.declared.errors.OutOfMemory.{OutOfMemory}

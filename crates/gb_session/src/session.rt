@@ -38,10 +38,17 @@ impl Ended {
 
 /// A bus to which lines are given one by one, each as in a script, and the report of the last one.
 /// Once no memory was found it keeps nothing, and says so at every line.
-#[derive(Drop)]
 pub struct Session {
     /// None once no memory was found.
     reporter: Option<Reporter>,
+}
+
+// Not derived: a crate that drops a session calls this, and doesn't go into its parts.
+impl Drop for Session {
+    fn drop(self) {
+        let Session { reporter } = self;
+        drop(reporter);
+    }
 }
 
 impl Session {
