@@ -48,4 +48,5 @@ IsSmallEvent (event.InsertRaw i manifest) = AreFew manifest
 IsSmallEvent (event.Send name to kind payload timeout) = AreFew payload
 IsSmallEvent (event.Bridge name i c ask) = IsSmallAsk ask
 IsSmallEvent (event.Inject i c bytes) = AreFew bytes
+IsSmallEvent (event.Image tag bytes) = AreFew bytes
 IsSmallEvent e = ⊤

@@ -17,6 +17,7 @@ abbrev pub is_plain : Event → Bool
 is_plain (event.Insert i kinds) = false
 is_plain (event.InsertRaw i manifest) = false
 is_plain (event.Inject i c bytes) = false
+is_plain (event.Image tag bytes) = false
 is_plain (event.Send name to kind payload timeout) = false
 is_plain (event.Bridge name i c ask) = false
 is_plain (event.Cancel name) = false

@@ -33,10 +33,11 @@ is_link (entry.Manifest i at reason) = true
 is_link (entry.Connection n ap i c state) = true
 is_link e = false
 
--- what a bridged device told
+-- what a device told
 abbrev pub is_device : Entry → Bool
 is_device (entry.Irq i c irq) = true
 is_device (entry.Received i c bytes) = true
 is_device (entry.Serial i c control) = true
 is_device (entry.Credits i c total) = true
+is_device (entry.Download i c tag size) = true
 is_device e = false

@@ -7,3 +7,4 @@ pub mod Kinds
 pub mod Marks
 pub mod Memory
 pub mod Name
+pub mod Tag

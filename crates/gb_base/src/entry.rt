@@ -1,6 +1,6 @@
 //! What an event brings about, one entry for each line of the report.
 
-use crate::{Bytes, End, Outcome, RawFault, Reading, Reason, Refusal, Sequence, Text};
+use crate::{Bytes, End, Outcome, RawFault, Reading, Reason, Refusal, Sequence, Tag, Text};
 
 /// The state of a connection, as the report tells it.
 #[derive(Clone, Copy, Debug, PartialEq, Eq)]
@@ -199,6 +199,17 @@ pub enum Entry {
         cport: u16,
         /// The credits now.
         total: u16,
+    },
+    /// A firmware download is over.
+    Download {
+        /// The interface.
+        intf: u8,
+        /// The CPort.
+        cport: u16,
+        /// The tag of the image.
+        tag: Tag,
+        /// How many bytes the image has that the device keeps now, None where the download failed.
+        size: Option<u32>,
     },
     /// A settle is over.
     Settled {

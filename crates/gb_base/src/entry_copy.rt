@@ -29,7 +29,8 @@ impl TryCopy for Entry {
             Entry::Irq { .. }
             | Entry::Received { .. }
             | Entry::Serial { .. }
-            | Entry::Credits { .. } => copy_device(self),
+            | Entry::Credits { .. }
+            | Entry::Download { .. } => copy_device(self),
             Entry::Settled { count } => Ok(Entry::Settled { count: *count }),
             Entry::Shown { text } => Ok(Entry::Shown { text: text.copy()? }),
         }
@@ -163,7 +164,7 @@ fn copy_link(entry: &Entry) -> Entry
     }
 }
 
-/// The copy of what a bridged device told.
+/// The copy of what a device told.
 fn copy_device(entry: &Entry) -> Result<Entry, OutOfMemory>
     requires { is_device entry.now ≡ true }
     ensures same { IfOk result (λ e. e ≡ entry.now) }
@@ -193,6 +194,17 @@ fn copy_device(entry: &Entry) -> Result<Entry, OutOfMemory>
             intf: *intf,
             cport: *cport,
             total: *total,
+        }),
+        Entry::Download {
+            intf,
+            cport,
+            tag,
+            size,
+        } => Ok(Entry::Download {
+            intf: *intf,
+            cport: *cport,
+            tag: tag.copied(),
+            size: *size,
         }),
         _ => unreachable!(),
     }

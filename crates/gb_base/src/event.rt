@@ -1,6 +1,6 @@
 //! The events of the bus, one for each line of a script.
 
-use crate::{BridgeAsk, Bytes, End, Kinds, Name};
+use crate::{BridgeAsk, Bytes, End, Kinds, Name, Tag};
 
 /// The kinds of interface that a script can plug by name.
 #[derive(Clone, Copy, Debug, Default, PartialEq, Eq)]
@@ -18,6 +18,8 @@ pub enum Kind {
     Bridge,
     /// A loopback device, which sends back what it was sent.
     Loopback,
+    /// A firmware device, which downloads images.
+    Firmware,
 }
 
 /// One event of the bus. `intf` is 2 to 31 and `cport` 0 to 4,095.
@@ -166,6 +168,22 @@ pub enum Event {
         cport: u16,
         /// The bytes.
         bytes: Bytes,
+    },
+    /// The application processor is given a firmware image.
+    Image {
+        /// Its tag.
+        tag: Tag,
+        /// Its bytes.
+        bytes: Bytes,
+    },
+    /// A firmware device begins to download an image.
+    Load {
+        /// The interface.
+        intf: u8,
+        /// The CPort.
+        cport: u16,
+        /// The tag of the image.
+        tag: Tag,
     },
     /// The state is shown.
     Show,

@@ -24,6 +24,10 @@ impl TryCopy for Event {
                 cport: *cport,
                 bytes: bytes.copy()?,
             }),
+            Event::Image { tag, bytes } => Ok(Event::Image {
+                tag: tag.copied(),
+                bytes: bytes.copy()?,
+            }),
             Event::Send { .. }
             | Event::Bridge { .. }
             | Event::Cancel { .. }
@@ -127,6 +131,11 @@ fn copy_plain(event: &Event) -> Event
             place: *place,
         },
         Event::Tick { millis } => Event::Tick { millis: *millis },
+        Event::Load { intf, cport, tag } => Event::Load {
+            intf: *intf,
+            cport: *cport,
+            tag: tag.copied(),
+        },
         Event::Show => Event::Show,
         _ => unreachable!(),
     }

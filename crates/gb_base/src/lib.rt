@@ -4,6 +4,7 @@
 mod audit;
 mod bridge;
 mod bytes;
+mod download;
 mod end;
 mod entry;
 mod entry_copy;
@@ -31,11 +32,13 @@ mod source;
 mod standard;
 mod status;
 mod steps;
+mod tag;
 mod text;
 
 pub use audit::{Finding, Verdict};
 pub use bridge::{BridgeAsk, Bridged, I2cOp, I2cOps, Reading, SpiOp, SpiOps};
 pub use bytes::Bytes;
+pub use download::Next;
 pub use end::{End, Side};
 pub use entry::{ConnState, Entries, Entry, IntfStage};
 pub use errors::{Failed, NoRoom, OutOfMemory};
@@ -60,4 +63,5 @@ pub use source::Source;
 pub use standard::{StdSink, StdSource};
 pub use status::Status;
 pub use steps::{Purpose, SequenceStep};
+pub use tag::Tag;
 pub use text::Text;

@@ -66,7 +66,7 @@ fn is_name(bytes: &[u8]) -> bool
 }
 
 /// Whether the byte is one of `a` to `z` or `0` to `9`.
-fn is_name_byte(b: u8) -> bool
+pub(crate) fn is_name_byte(b: u8) -> bool
     ensures { result ≡ is_name_byte b }
 {
     b.is_ascii_lowercase() || b.is_ascii_digit()
