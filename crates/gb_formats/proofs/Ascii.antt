@@ -36,7 +36,8 @@ use Rattle.gb_formats.specs.Reasons.{reason_text, refusal_text}
 use Rattle.gb_formats.specs.ShowTexts.{connection_line, device_text, interface_line, name_line}
 use Rattle.gb_formats.specs.ShowTexts.{now_line, queue_line, requester_text, standing_text}
 use Rattle.gb_formats.specs.ShowTexts.{unclean_text}
-use Rattle.gb_formats.specs.Texts.{answer_text, bad_line, bad_text, dropped_text, end_text, ended}
+use Rattle.gb_formats.specs.Texts.{answer_text, bad_line, bad_text, download_text, dropped_text}
+use Rattle.gb_formats.specs.Texts.{end_text, ended}
 use Rattle.gb_formats.specs.Texts.{entry_line, entry_text, item_text, lost_text, outcome_text}
 use Rattle.gb_formats.specs.Texts.{raw_fault_text, reading_text, refusal_line_text, size_text}
 use Rattle.gb_formats.specs.Texts.{stage_text, state_text, wire_fault_text}
@@ -212,8 +213,18 @@ bad_is (bad.ExtraWord at) = dec at
 
 -- lines
 
+-- an entry has a text that isn't made of its numbers: a line of `show`, or the tag of an image
+abbrev pub IsWordOf : List ℕ → Entry → Type 0
+IsWordOf text (entry.Shown line) = line ≡ text
+IsWordOf text (entry.Download i c tag size) = tag ≡ text
+IsWordOf text _ = ⊥
+
+download : (size : Option ℕ) → is_ascii (download_text size) ≡ true
+download (Some n) = dec n
+download None = refl
+
 line_is : (line : ℕ) (hex : Bool) (e : Entry) →
-    ((text : List ℕ) → e ≡ entry.Shown text → is_ascii text ≡ true)
+    ((text : List ℕ) → IsWordOf text e → is_ascii text ≡ true)
     → is_ascii (entry_line line hex e) ≡ true
 line_is line hex entry.Done h = simp (cat, dec)
 line_is line hex (entry.Refused why) h = simp (cat, dec, refused)
@@ -238,15 +249,17 @@ line_is line hex (entry.Irq i c irq) h = simp (cat, dec)
 line_is line hex (entry.Received i c bs) h = simp (cat, dec, bytes)
 line_is line hex (entry.Serial i c control) h = simp (cat, dec)
 line_is line hex (entry.Credits i c total) h = simp (cat, dec)
+line_is line hex (entry.Download i c tag size) h =
+    let spelled = h tag refl in simp (cat, dec, spelled, download)
 line_is line hex (entry.Settled count) h = dec count
 line_is line hex (entry.Shown text) h = h text refl
 
 end_of_line : (line : List ℕ) → is_ascii line ≡ true → IsAscii (ended line)
 end_of_line line h = seen (ended line) (both line (10 ∷ []) h refl)
 
--- what the report has for an entry; what `show` shows must be ASCII
+-- what the report has for an entry; a text in it must be ASCII
 pub IsAscii-entry_text : (line : ℕ) (hex : Bool) (e : Entry)
-    → ((text : List ℕ) → e ≡ entry.Shown text → IsAscii text) → IsAscii (entry_text line hex e)
+    → ((text : List ℕ) → IsWordOf text e → IsAscii text) → IsAscii (entry_text line hex e)
 IsAscii-entry_text line hex e h =
     end_of_line (entry_line line hex e) (line_is line hex e (λ text is. tested text (h text is)))
 

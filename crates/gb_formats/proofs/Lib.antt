@@ -3,6 +3,7 @@ pub mod JudgedValid
 pub mod MadeValid
 pub mod SaidValid
 pub mod SaidValidBridges
+pub mod SaidValidImages
 pub mod Samples
 pub mod VectorsAudit
 pub mod VectorsBadLines

@@ -5,21 +5,23 @@ use Rattle.gb_base.specs.declared.served.OwnAsk.{OwnAsk}
 use Rattle.gb_formats.specs.GpioDevice.{GpioLine, Levelled, first_gpio, restarted_gpio, gpio_step}
 use Rattle.gb_formats.specs.GpioDevice.{gpio_level_set, irq_told}
 use Rattle.gb_formats.specs.I2cDevice.{I2cDevice, first_i2c, i2c_step}
+use Rattle.gb_formats.specs.Loader.{Loader, first_loader}
 use Rattle.gb_formats.specs.LoopbackDevice.{loopback_step}
-use Rattle.gb_formats.specs.Protocols.{gpio_protocol, i2c_protocol, loopback_protocol}
-use Rattle.gb_formats.specs.Protocols.{spi_protocol, uart_protocol}
-use Rattle.gb_formats.specs.Results.{Step, Stirred}
+use Rattle.gb_formats.specs.Protocols.{firmware_protocol, gpio_protocol, i2c_protocol}
+use Rattle.gb_formats.specs.Protocols.{loopback_protocol, spi_protocol, uart_protocol}
+use Rattle.gb_formats.specs.Results.{Step, Stirred, refuses, protocol_bad}
 use Rattle.gb_formats.specs.SpiDevice.{first_spi, spi_step}
 use Rattle.gb_formats.specs.UartDevice.{uart_step, serial_told}
 
--- A device: the lines of a GPIO, the memory of an I2C, the last byte of an SPI, a UART, or
--- Loopback.
+-- A device: the lines of a GPIO, the memory of an I2C, the last byte of an SPI, a UART, Loopback,
+-- or the loader of a firmware device.
 pub data Device : Type 0 where
   Gpio : List GpioLine → Device
   I2c : I2cDevice → Device
   Spi : ℕ → Device
   Uart : Device
   Loopback : Device
+  Firmware : Loader → Device
 
 -- The device of a protocol in its first state, if there is one.
 abbrev pub device_of : ℕ → Option Device
@@ -29,6 +31,7 @@ device_of protocol =
     else if protocol == spi_protocol then Some (Spi first_spi)
     else if protocol == uart_protocol then Some Uart
     else if protocol == loopback_protocol then Some Loopback
+    else if protocol == firmware_protocol then Some (Firmware first_loader)
     else None
 
 -- The first state of a device, but that the levels of its lines stay.
@@ -38,6 +41,7 @@ restarted_device (I2c device) = I2c first_i2c
 restarted_device (Spi last) = Spi first_spi
 restarted_device Uart = Uart
 restarted_device Loopback = Loopback
+restarted_device (Firmware loader) = Firmware first_loader
 
 -- ---- requests
 
@@ -45,7 +49,7 @@ restarted_device Loopback = Loopback
 abbrev pub as_device : {D : Type 0} → (D → Device) → Step D → Step Device
 as_device wrap step = record { after = wrap step.after; served = step.served }
 
--- The step of a device at a request.
+-- The step of a device at a request. A firmware device has no requests to it.
 abbrev pub device_step : Device → ℕ → List ℕ → Step Device
 device_step (Gpio lines) kind payload = as_device Gpio (gpio_step lines kind payload)
 device_step (I2c device) kind payload = as_device I2c (i2c_step device kind payload)
@@ -53,6 +57,7 @@ device_step (Spi last) kind payload = as_device Spi (spi_step last kind payload)
 device_step Uart kind payload = record { after = Uart; served = uart_step kind payload }
 device_step Loopback kind payload =
     record { after = Loopback; served = loopback_step kind payload }
+device_step (Firmware loader) kind payload = refuses (Firmware loader) protocol_bad
 
 -- ---- stirs from outside
 

@@ -11,7 +11,7 @@ use Rattle.gb_base.specs.declared.name.Name.{Name}
 use Rattle.gb_formats.specs.BridgeForms.{gpio_form, i2c_form, loopback_form, spi_form, uart_form}
 use Rattle.gb_formats.specs.Said.{Rest, next_word, by_word, next_cport, at_end}
 use Rattle.gb_formats.specs.WordValues.{name_word, intf_word, cport_word, count_word, from_one_word}
-use Rattle.gb_formats.specs.WordValues.{hex_word, type_word, kind_word}
+use Rattle.gb_formats.specs.WordValues.{hex_word, type_word, kind_word, tag_word}
 pub use Rattle.gb_formats.specs.Said.{Said}
 pub use Rattle.gb_formats.specs.WordValues.{is_name_word, name_of}
 
@@ -161,6 +161,19 @@ injecting ws =
     next_cport ws (λ i c ws. next_word hex_word ws (λ bytes ws.
     at_end ws (event.Inject i c bytes)))
 
+-- ---- firmware
+
+-- `image TAG HEX`
+abbrev pub giving_image : Rest → Said
+giving_image ws =
+    next_word tag_word ws (λ tag ws. next_word hex_word ws (λ bytes ws.
+    at_end ws (event.Image tag bytes)))
+
+-- `load I C TAG`
+abbrev pub loading : Rest → Said
+loading ws =
+    next_cport ws (λ i c ws. next_word tag_word ws (λ tag ws. at_end ws (event.Load i c tag)))
+
 -- ---- all forms
 
 -- what a line asks for by its first word
@@ -182,6 +195,8 @@ by_first who w ws =
     else if bytes_eq w (codes "drop") then of_name who event.Forget ws
     else if bytes_eq w (codes "tick") then ticking ws
     else if bytes_eq w (codes "inject") then injecting ws
+    else if bytes_eq w (codes "image") then giving_image ws
+    else if bytes_eq w (codes "load") then loading ws
     else if bytes_eq w (codes "show") then at_end ws event.Show
     else if bytes_eq w (codes "gpio") then gpio_form who ws
     else if bytes_eq w (codes "i2c") then i2c_form who ws

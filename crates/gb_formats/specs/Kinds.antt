@@ -3,9 +3,9 @@ use Rattle.std.specs.Prelude.{ℕ, List, [], ◌∷◌, codes}
 use Rattle.gb_base.specs.declared.event.Kind.{Kind}
 use Rattle.gb_base.specs.declared.event.Kind.TheVariants as kind
 use Rattle.gb_formats.specs.ManifestSpec.{ManifestSpec, StringSpec, BundleSpec, CportSpec, plain}
-use Rattle.gb_formats.specs.Protocols.{control_protocol, gpio_protocol, i2c_protocol, uart_protocol}
-use Rattle.gb_formats.specs.Protocols.{spi_protocol, loopback_protocol, control_class}
-use Rattle.gb_formats.specs.Protocols.{bridged_class, loopback_class}
+use Rattle.gb_formats.specs.Protocols.{control_protocol, firmware_protocol, gpio_protocol}
+use Rattle.gb_formats.specs.Protocols.{i2c_protocol, loopback_protocol, spi_protocol, uart_protocol}
+use Rattle.gb_formats.specs.Protocols.{bridged_class, control_class, firmware_class, loopback_class}
 
 -- the product string of a kind
 abbrev pub product_of : Kind → List ℕ
@@ -15,6 +15,7 @@ product_of kind.Spi = codes "SPI"
 product_of kind.Uart = codes "UART"
 product_of kind.Bridge = codes "Bridge"
 product_of kind.Loopback = codes "Loopback"
+product_of kind.Firmware = codes "Firmware"
 
 -- a string with this id
 abbrev pub string_of : ℕ → List ℕ → StringSpec
@@ -38,10 +39,12 @@ kind_cports kind.Bridge =
     cport_of 1 1 gpio_protocol ∷ cport_of 2 1 i2c_protocol ∷ cport_of 3 1 spi_protocol
     ∷ cport_of 4 1 uart_protocol ∷ []
 kind_cports kind.Loopback = cport_of 1 1 loopback_protocol ∷ []
+kind_cports kind.Firmware = cport_of 1 1 firmware_protocol ∷ []
 
 -- the class of bundle 1
 abbrev pub class_of : Kind → ℕ
 class_of kind.Loopback = loopback_class
+class_of kind.Firmware = firmware_class
 class_of _ = bridged_class
 
 -- The spec of a kind's manifest: strings 1 and 2 for vendor and product, bundle 0 with CPort 0 for

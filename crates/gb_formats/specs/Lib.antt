@@ -9,13 +9,17 @@ pub mod ControlResponder
 pub mod Descriptors
 pub mod Devices
 pub mod Dump
+pub mod FirmwareRecords
 pub mod GpioDevice
 pub mod GpioRecords
 pub mod Grammar
 pub mod I2cDevice
 pub mod I2cRecords
+pub mod Images
 pub mod Kinds
 pub mod Lines
+pub mod Lists
+pub mod Loader
 pub mod LoopbackDevice
 pub mod LoopbackRecords
 pub mod Made
@@ -24,6 +28,7 @@ pub mod ManifestRules
 pub mod ManifestSpec
 pub mod Message
 pub mod Module
+pub mod ModuleLoads
 pub mod ModuleSteps
 pub mod Orders
 pub mod Parts

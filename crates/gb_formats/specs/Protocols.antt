@@ -30,6 +30,10 @@ loopback_protocol = 0x11
 abbrev pub svc_protocol : ℕ
 svc_protocol = 0x14
 
+-- the protocol of a firmware device that downloads images
+abbrev pub firmware_protocol : ℕ
+firmware_protocol = 0x17
+
 -- the class of the bundle that has the Control CPort
 abbrev pub control_class : ℕ
 control_class = 0x00
@@ -41,3 +45,7 @@ bridged_class = 0x0a
 -- the class of a bundle of a loopback device
 abbrev pub loopback_class : ℕ
 loopback_class = 0x11
+
+-- the class of a bundle of a firmware device, "Vendor Specific"
+abbrev pub firmware_class : ℕ
+firmware_class = 0xff

@@ -21,6 +21,10 @@ overflow = 0x05
 abbrev pub invalid : ℕ
 invalid = 0x06
 
+-- it can't be served now
+abbrev pub retry : ℕ
+retry = 0x07
+
 -- what is asked for isn't there
 abbrev pub nonexistent : ℕ
 nonexistent = 0x08

@@ -101,6 +101,11 @@ state_text state.Closing = codes "closing"
 state_text state.Closed = codes "closed"
 state_text state.Failed = codes "failed"
 
+-- how a download ended: how many bytes are kept, or that it failed
+abbrev pub download_text : Option ℕ → List ℕ
+download_text (Some size) = joined (codes "done " ∷ decimal size ∷ [])
+download_text None = codes "failed"
+
 -- The line of an entry, without its end. `line` is the number of the script line.
 abbrev pub entry_line : ℕ → Bool → Entry → List ℕ
 entry_line line hex entry.Done = joined (codes "line " ∷ decimal line ∷ codes " ok" ∷ [])
@@ -142,6 +147,9 @@ entry_line line hex (entry.Serial i c control) =
     joined (codes "serial " ∷ decimal i ∷ codes " " ∷ decimal c ∷ codes " " ∷ decimal control ∷ [])
 entry_line line hex (entry.Credits i c total) =
     joined (codes "credits " ∷ decimal i ∷ codes " " ∷ decimal c ∷ codes " " ∷ decimal total ∷ [])
+entry_line line hex (entry.Download i c tag size) =
+    joined (codes "download " ∷ decimal i ∷ codes " " ∷ decimal c ∷ codes " " ∷ tag ∷ codes " "
+    ∷ download_text size ∷ [])
 entry_line line hex (entry.Settled count) = joined (codes "settled " ∷ decimal count ∷ [])
 entry_line line hex (entry.Shown text) = text
 

@@ -3,6 +3,7 @@
 use Rattle.std.specs.Prelude.{◌≡◌, ◌≤◌, ◌⊎◌, ℕ, IsTrue, ⊤, List, [], ◌∷◌, length}
 use Rattle.gb_base.specs.Kinds.{most_kinds}
 use Rattle.gb_base.specs.Name.{is_name}
+use Rattle.gb_base.specs.Tag.{is_tag}
 use Rattle.gb_base.specs.declared.bridge.BridgeAsk.{BridgeAsk}
 use Rattle.gb_base.specs.declared.bridge.BridgeAsk.TheVariants as ask
 use Rattle.gb_base.specs.declared.bridge.I2cOp.{I2cOp}
@@ -51,6 +52,10 @@ IsRequestType kind = kind ≤ 127
 -- 1 to 16 of `a` to `z` and `0` to `9`
 abbrev pub IsName : Name → Type 0
 IsName name = IsTrue (is_name name.word)
+
+-- the tag of an image: 1 to 9 of `a` to `z` and `0` to `9`
+abbrev pub IsTag : List ℕ → Type 0
+IsTag tag = IsTrue (is_tag tag)
 
 -- an end to which a `send` goes: the SVC or a CPort of a module
 abbrev pub IsFar : End → Type 0
@@ -149,4 +154,6 @@ IsValid (event.Copy x y) = IsName x × IsName y
 IsValid (event.Forget name) = IsName name
 IsValid (event.Tick ms) = IsFromOne ms
 IsValid (event.Inject i c bytes) = IsIntf i × IsCport c
+IsValid (event.Image tag bytes) = IsTag tag × IsU32 (length bytes)
+IsValid (event.Load i c tag) = IsIntf i × IsCport c × IsTag tag
 IsValid event.Show = ⊤

@@ -1,4 +1,4 @@
--- What single words of a script mean: numbers, names, hex words and kinds of modules.
+-- What single words of a script mean: numbers, names, hex words, kinds of modules and tags.
 use Rattle.std.specs.Prelude.{ℕ, ◌+◌, ◌-◌, ◌*◌, ◌==◌, nat_lt, nat_le, Bool, ◌&&◌, ◌||◌}
 use Rattle.std.specs.Prelude.{if◌then◌else◌, Option, Some, None, option_and_then, Result, Ok, Err}
 use Rattle.std.specs.Prelude.{List, [], ◌∷◌, length, drop, slice_index, codes}
@@ -8,6 +8,7 @@ use Rattle.std.specs.Str.{bytes_eq}
 use Rattle.hex.specs.Hex.{decode_of}
 use Rattle.hex.specs.declared.error.FromHexError.{FromHexError}
 use Rattle.gb_base.specs.Name.{is_name}
+use Rattle.gb_base.specs.Tag.{is_tag}
 use Rattle.gb_base.specs.declared.event.Kind.{Kind}
 use Rattle.gb_base.specs.declared.event.Kind.TheVariants as kind
 use Rattle.gb_base.specs.declared.name.Name.{Name}
@@ -115,4 +116,9 @@ kind_word w =
     else if bytes_eq w (codes "uart") then Some kind.Uart
     else if bytes_eq w (codes "bridge") then Some kind.Bridge
     else if bytes_eq w (codes "loopback") then Some kind.Loopback
+    else if bytes_eq w (codes "firmware") then Some kind.Firmware
     else None
+
+-- TAG
+abbrev pub tag_word : List ℕ → Option (List ℕ)
+tag_word w = then_some (is_tag w) w

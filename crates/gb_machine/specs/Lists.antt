@@ -1,8 +1,8 @@
--- Words on lists that stand for maps.
-use Rattle.std.specs.Prelude.{ℕ, zero, suc, ◌+◌, ◌==◌, nat_le, nat_lt, Bool, false, not, ◌&&◌}
+-- Words on lists that stand for maps, more of them.
+use Rattle.std.specs.Prelude.{ℕ, zero, suc, ◌+◌, ◌==◌, nat_le, nat_lt, Bool, false, ◌&&◌}
 use Rattle.std.specs.Prelude.{if◌then◌else◌, Option, Some, None, List, [], ◌∷◌, slice_get}
-use Rattle.std.specs.List.{filter}
 use Rattle.gb_base.specs.declared.refusal.Refusal.{Refusal}
+pub use Rattle.gb_formats.specs.Lists.{first_free, without}
 
 -- the n-th member, counted from 1
 abbrev pub nth : {A : Type 0} → ℕ → List A → Option A
@@ -49,10 +49,6 @@ abbrev pub conditions_of : {A : Type 0} → (A → List Condition) → Option A 
 conditions_of of None = []
 conditions_of of (Some x) = of x
 
--- the members that don't pass the test
-abbrev pub without : {A : Type 0} → (A → Bool) → List A → List A
-without test xs = filter (λ x. not (test x)) xs
-
 -- a member goes in front of the first one that it comes before
 abbrev pub in_order : {A : Type 0} → (A → A → Bool) → A → List A → List A
 in_order before x [] = x ∷ []
@@ -73,10 +69,3 @@ span n (suc more) = n ∷ span (n + 1) more
 -- a number is one of so many, from n on
 abbrev pub is_within : ℕ → ℕ → ℕ → Bool
 is_within n count i = nat_le n i && nat_lt i (n + count)
-
--- the first of so many numbers, from n on, that isn't taken
-unfoldable pub first_free : (ℕ → Bool) → ℕ → ℕ → Option ℕ
-first_free taken zero n = None
-first_free taken (suc tries) n =
-    let later = first_free taken tries (n + 1) in
-    if taken n then later else Some n
