@@ -14,6 +14,7 @@ pub mod RowsCredits
 pub mod RowsDevices
 pub mod RowsDraining
 pub mod RowsEnumeration
+pub mod RowsFirmware
 pub mod RowsHotPlug
 pub mod RowsInjection
 pub mod RowsLabels

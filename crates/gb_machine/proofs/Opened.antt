@@ -9,17 +9,20 @@ use Rattle.gb_machine.specs.Asking.{asks, asks_with}
 use Rattle.gb_machine.specs.Events.{decided, does, shows, step}
 use Rattle.gb_machine.specs.GivingUp.{cancels, gives_up, ticks, times_out}
 use Rattle.gb_machine.specs.HostActs.{acts, asked_with, drains, fails, follows, host_asks}
-use Rattle.gb_machine.specs.HostActs.{host_opens, idles, idles_behind, notices, opened_with, turns}
+use Rattle.gb_machine.specs.HostActs.{host_follows, host_opens, idles, idles_behind, notices}
+use Rattle.gb_machine.specs.HostActs.{opened_with, turns}
 use Rattle.gb_machine.specs.Labels.{free_label}
 use Rattle.gb_machine.specs.LineActions.{answers, answers_at, answers_held, bridge_sent, bridges}
 use Rattle.gb_machine.specs.LineActions.{copies, holds, injects, injects_at, sends, sends_on}
 use Rattle.gb_machine.specs.LineActions.{serves_held, stirred, stirs}
 use Rattle.gb_machine.specs.Lists.{first_free}
+use Rattle.gb_machine.specs.Loading.{asks_at, asks_next, begins, fails_unasked, goes_on, load_ended}
+use Rattle.gb_machine.specs.Loading.{load_follows, loads, module_goes_on}
 use Rattle.gb_machine.specs.OwnAsking.{far_asks, far_asks_all, svc_asks}
 use Rattle.gb_machine.specs.Plugging.{boots, plugs, pulls, pulls_module, pulls_one}
 use Rattle.gb_machine.specs.Plugging.{tells_inserted, tells_removed}
-use Rattle.gb_machine.specs.Responding.{host_behind, replies, responds, serves, serves_oneway}
-use Rattle.gb_machine.specs.Responding.{with_ports}
+use Rattle.gb_machine.specs.Responding.{disconnects, host_behind, replies, responds, serves}
+use Rattle.gb_machine.specs.Responding.{serves_oneway, with_ports}
 use Rattle.gb_machine.specs.Settling.{settles, settles_at, settles_from}
 use Rattle.gb_machine.specs.Wires.{shuts, unwires, wires}
 
@@ -35,13 +38,13 @@ bus_opened = tt
 
 -- the application processor's acts
 unfoldable pub host_opened : ⊤
-unfolding acts asked_with drains fails follows host_asks host_opens idles idles_behind notices
-    opened_with turns
+unfolding acts asked_with drains fails follows host_asks host_follows host_opens idles
+    idles_behind notices opened_with turns
 host_opened = tt
 
 -- serving
 unfoldable pub serving_opened : ⊤
-unfolding host_behind replies responds serves serves_oneway with_ports
+unfolding disconnects host_behind replies responds serves serves_oneway with_ports
 serving_opened = tt
 
 -- delivering
@@ -57,8 +60,14 @@ unfolding answers answers_at answers_held boots bridge_sent bridges cancels copi
     settles_at settles_from shows stirred stirs tells_inserted tells_removed ticks times_out
 lines_opened = tt
 
+-- firmware downloads
+unfoldable pub loading_opened : ⊤
+unfolding asks_at asks_next begins fails_unasked goes_on load_ended load_follows loads
+    module_goes_on
+loading_opened = tt
+
 -- the whole machine
 unfoldable pub machine_opened : ⊤
-unfolding actions_opened bus_opened host_opened serving_opened delivering_opened lines_opened does
-    decided step
+unfolding actions_opened bus_opened host_opened serving_opened delivering_opened lines_opened
+    loading_opened does decided step
 machine_opened = tt

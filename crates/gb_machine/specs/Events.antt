@@ -7,12 +7,14 @@ use Rattle.gb_base.specs.declared.host_event.HostEvent.TheVariants as host_event
 use Rattle.gb_base.specs.declared.refusal.Refusal.{Refusal}
 use Rattle.gb_formats.specs.Devices.{Level, Serial}
 use Rattle.gb_formats.specs.Module.{module_of_kind, module_raw}
-use Rattle.gb_machine.specs.Actions.{Action, Told, by_state, change, tell, tell_all, ◌▸◌}
+use Rattle.gb_machine.specs.Actions.{Action, Told, by_state, change, on_host, tell, tell_all, ◌▸◌}
 use Rattle.gb_machine.specs.Arriving.{delivers}
 use Rattle.gb_machine.specs.GivingUp.{cancels, ticks}
+use Rattle.gb_machine.specs.Host.{with_given}
 use Rattle.gb_machine.specs.HostActs.{drains, notices}
 use Rattle.gb_machine.specs.LineActions.{answers, ap_draft, bridges, copies, holds, injects, sends}
 use Rattle.gb_machine.specs.LineActions.{stirs}
+use Rattle.gb_machine.specs.Loading.{loads}
 use Rattle.gb_machine.specs.Names.{freed}
 use Rattle.gb_machine.specs.Plugging.{boots, plugs, pulls}
 use Rattle.gb_machine.specs.Refusals.{refusal}
@@ -51,6 +53,8 @@ does (event.Copy x y) = copies x y
 does (event.Forget name) = change (freed name)
 does (event.Tick millis) = ticks millis
 does (event.Inject i c bytes) = injects i c bytes
+does (event.Image tag bytes) = on_host (with_given tag bytes)
+does (event.Load i c tag) = loads i c tag
 does event.Show = shows
 
 -- A refused event changes nothing and tells its refusal alone.

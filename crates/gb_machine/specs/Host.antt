@@ -1,4 +1,5 @@
--- The application processor: what it knows of interfaces and of its connections to modules.
+-- The application processor: what it knows of interfaces and of its connections to modules, and its
+-- firmware images.
 use Rattle.std.specs.Prelude.{ℕ, ◌==◌, nat_lt, Bool, true, false, ◌&&◌, if◌then◌else◌, Option, Some}
 use Rattle.std.specs.Prelude.{None, option_map, option_and_then, Result, Ok, Err, List, [], ◌∷◌}
 use Rattle.std.specs.Prelude.{◌++◌, find, map}
@@ -9,6 +10,7 @@ use Rattle.gb_base.specs.declared.entry.ConnState.{ConnState}
 use Rattle.gb_base.specs.declared.entry.ConnState.TheVariants as state
 use Rattle.gb_base.specs.declared.entry.IntfStage.{IntfStage}
 use Rattle.gb_base.specs.declared.entry.IntfStage.TheVariants as stage
+use Rattle.gb_formats.specs.Images.{Images, forgotten, no_images, with_image}
 use Rattle.gb_formats.specs.Manifest.{CportView, Manifest, check_answer, cport}
 use Rattle.gb_formats.specs.ManifestRules.{Refused}
 use Rattle.gb_formats.specs.UartDevice.{most_credits}
@@ -18,10 +20,11 @@ use Rattle.gb_machine.specs.Lists.{at_first, first_free, in_order, without}
 pub record Host : Type 0 where
   pub interfaces : List Interface
   pub links : List Link
+  pub images : Images
 
--- nothing was inserted
+-- nothing was inserted, and no image was given
 abbrev pub first_host : Host
-first_host = record { interfaces = []; links = [] }
+first_host = record { interfaces = []; links = []; images = no_images }
 
 -- ---- interfaces
 
@@ -138,6 +141,21 @@ with_new_link k ap i c protocol h = record h {
 -- the host without the connection to a CPort of an interface
 abbrev pub without_link : ℕ → ℕ → Host → Host
 without_link i c h = record h { links = without (is_link i c) h.links }
+
+-- ---- images
+
+-- The application processor is given an image under a tag.
+abbrev pub with_given : List ℕ → List ℕ → Host → Host
+with_given tag bytes h = record h { images = with_image tag bytes h.images }
+
+-- The ids of a connection are free.
+abbrev pub with_freed : ℕ → Host → Host
+with_freed k h = record h { images = forgotten k h.images }
+
+-- the ids of connections are free
+abbrev pub with_all_freed : List Link → Host → Host
+with_all_freed [] h = h
+with_all_freed (l ∷ ls) h = with_all_freed ls (with_freed l.connection h)
 
 -- ---- manifests
 

@@ -16,6 +16,7 @@ use Rattle.gb_machine.specs.Bus.{Request, next_number, request_of}
 use Rattle.gb_machine.specs.Host.{Host, link_at, with_new_link}
 use Rattle.gb_machine.specs.HostTurns.{host_turn}
 use Rattle.gb_machine.specs.Labels.{next_label}
+use Rattle.gb_machine.specs.Loading.{load_follows}
 use Rattle.gb_machine.specs.Requests.{is_idle, same_side}
 use Rattle.gb_machine.specs.Sending.{Draft, draft}
 use Rattle.gb_machine.specs.SequenceSteps.{is_for_connection}
@@ -106,9 +107,13 @@ unfoldable pub idles_behind : Request → Action
 idles_behind r = when (same_side side.Ap r.side) (idles r.connection)
 
 -- A request ended: what waited for it goes on or fails, and a connection that drains may close.
-unfoldable pub follows : ℕ → Outcome → Action
-follows n how = by_state (λ s.
+unfoldable pub host_follows : ℕ → Outcome → Action
+host_follows n how = by_state (λ s.
     notices (host_event.Ended n how) ▸ given (request_of n s.bus) idles_behind)
+
+-- A request ended: the application processor or the module that waited for it goes on or fails.
+unfoldable pub follows : ℕ → Outcome → Action
+follows n how = host_follows n how ▸ load_follows n how
 
 -- The connection to a CPort of an interface drains, and begins to close where nothing is open.
 unfoldable pub drains : ℕ → ℕ → Action

@@ -11,6 +11,7 @@ use Rattle.gb_base.specs.declared.entry.IntfStage.TheVariants as stage
 use Rattle.gb_base.specs.declared.refusal.Refusal.TheVariants as why
 use Rattle.gb_base.specs.declared.peers.Link.{Link}
 use Rattle.gb_formats.specs.Bridges.{ask_protocol, credits_taken, is_too_large}
+use Rattle.gb_formats.specs.Images.{image_of}
 use Rattle.gb_formats.specs.Manifest.{CportView}
 use Rattle.gb_formats.specs.UartDevice.{credits_spent}
 use Rattle.gb_machine.specs.Host.{Host, cport_of, free_cport, interface_of, link_at}
@@ -28,9 +29,10 @@ abbrev pub is_failed_stage : IntfStage → Bool
 is_failed_stage stage.Failed = true
 is_failed_stage _ = false
 
--- the protocols that are connected: GPIO, I2C, UART, SPI and Loopback
+-- the protocols that are connected: GPIO, I2C, UART, SPI, Loopback and Firmware Download
 abbrev pub is_bridged : CportView → Bool
-is_bridged view = list_any (λ p. p == view.protocol) (0x02 ∷ 0x03 ∷ 0x04 ∷ 0x0b ∷ 0x11 ∷ [])
+is_bridged view =
+    list_any (λ p. p == view.protocol) (0x02 ∷ 0x03 ∷ 0x04 ∷ 0x0b ∷ 0x11 ∷ 0x17 ∷ [])
 
 -- When a connect is refused, but for want of an identifier.
 abbrev pub connect_conditions : ℕ → ℕ → Host → List Condition
@@ -114,3 +116,9 @@ bridge_conditions l what =
     ∷ (is_too_large what, why.TooLarge)
     ∷ (is_none (credits_spent l.credits (credits_taken what)), why.NoCredit)
     ∷ []
+
+-- ---- images
+
+-- When an image isn't given.
+abbrev pub image_conditions : List ℕ → Host → List Condition
+image_conditions tag h = (is_some (image_of tag h.images), why.Occupied) ∷ []

@@ -6,8 +6,9 @@ use Rattle.gb_base.specs.declared.host_event.HostEvent.TheVariants as host_event
 use Rattle.gb_base.specs.declared.host_event.HostEvent.{HostEvent}
 use Rattle.gb_base.specs.declared.peers.Link.{Link}
 use Rattle.gb_formats.specs.GpioRecords.{GpioAsk, read_gpio_ask_of_module}
+use Rattle.gb_formats.specs.Images.{Images, images_step}
 use Rattle.gb_formats.specs.Records.{PayloadFault}
-use Rattle.gb_formats.specs.Results.{fault_result}
+use Rattle.gb_formats.specs.Results.{Step, fault_result}
 use Rattle.gb_formats.specs.SvcRecords.{SvcAsk, SvcReply, read_svc_ask_of_svc, svc_reply_payload}
 use Rattle.gb_formats.specs.UartDevice.{credits_added}
 use Rattle.gb_formats.specs.UartRecords.{UartAsk, read_uart_ask_of_module}
@@ -101,6 +102,19 @@ uart_notified_by l (Err fault) h = host_refuses (fault_result fault) h
 abbrev pub serves_uart : Link → ℕ → List ℕ → Host → HostServed
 serves_uart l kind payload h = uart_notified_by l (read_uart_ask_of_module kind payload) h
 
+-- ---- requests of firmware devices
+
+-- it answers, and other ids are in use
+abbrev pub images_served : Step Images → Host → HostServed
+images_served step h =
+    host_answers (answer step.served.result step.served.payload)
+    (record h { images = step.after })
+
+-- A request of a firmware device.
+abbrev pub serves_firmware : Link → ℕ → List ℕ → Host → HostServed
+serves_firmware l kind payload h =
+    images_served (images_step l.connection kind payload h.images) h
+
 -- ---- all requests
 
 -- a request on a connection to a module, or on that of the supervisory controller
@@ -109,6 +123,7 @@ served_on None kind payload h = serves_svc kind payload h
 served_on (Some l) kind payload h =
     if l.protocol == 0x02 then serves_gpio l kind payload h
     else if l.protocol == 0x04 then serves_uart l kind payload h
+    else if l.protocol == 0x17 then serves_firmware l kind payload h
     else host_refuses protocol_bad h
 
 -- What the application processor answers to a request on a connection. The Control, I2C, SPI and

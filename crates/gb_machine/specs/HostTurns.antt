@@ -13,8 +13,8 @@ use Rattle.gb_base.specs.declared.steps.Purpose.{Purpose}
 use Rattle.gb_base.specs.declared.steps.SequenceStep.TheVariants as steps
 use Rattle.gb_formats.specs.Manifest.{CportView}
 use Rattle.gb_machine.specs.Host.{Host, cport_of, free_cport, in_state, interface_of, interfaces_of}
-use Rattle.gb_machine.specs.Host.{is_draining, is_intf, link_at, link_of, with_link}
-use Rattle.gb_machine.specs.Host.{with_new_interface}
+use Rattle.gb_machine.specs.Host.{is_draining, is_intf, link_at, link_of, with_all_freed, with_freed}
+use Rattle.gb_machine.specs.Host.{with_link, with_new_interface}
 use Rattle.gb_machine.specs.Lists.{span, without}
 use Rattle.gb_machine.specs.SequenceSteps.{purpose}
 use Rattle.gb_machine.specs.Failures.{link_told}
@@ -54,10 +54,10 @@ without_interface i h = record h {
   links = without (λ l. l.intf == i) h.links;
 }
 
--- An interface is absent: its connections are closed in order of number.
+-- An interface is absent: its connections are closed in order of number, and their ids are free.
 abbrev pub host_removed : ℕ → Host → Turn
 host_removed i h =
-    turn (without_interface i h)
+    turn (without_interface i (with_all_freed (links_of i h) h))
     (links_left (links_of i h) ++ Act.Tell (entry.Interface i stage.Removed) ∷ [])
 
 -- a connection with a protocol is made on a CPort of the application processor
@@ -76,11 +76,12 @@ host_connects i c h =
     connects (option_and_then (cport_of c) (interface_of i h))
     (purpose i c steps.CreateConnection) h
 
--- a connection is closing: its side is closed, and then its sequence begins
+-- a connection is closing: its side is closed, its ids are free, and then its sequence begins
 abbrev pub disconnects : Option Link → Purpose → Host → Turn
 disconnects None p h = turn h []
 disconnects (Some l) p h =
-    let asked = step_asked p (with_link p.intf p.cport (in_state state.Closing) h) in
+    let freed = with_freed l.connection h in
+    let asked = step_asked p (with_link p.intf p.cport (in_state state.Closing) freed) in
     turn asked.host
     (Act.Shut l.connection ∷ Act.Tell (link_told state.Closing l) ∷ asked.acts)
 

@@ -22,10 +22,12 @@ pub mod LawsBus
 pub mod LawsCredits
 pub mod LawsDraining
 pub mod LawsEnds
+pub mod LawsFirmware
 pub mod LawsHotPlug
 pub mod LawsSvc
 pub mod LineActions
 pub mod Lists
+pub mod Loading
 pub mod Members
 pub mod Modules
 pub mod Names

@@ -1,5 +1,6 @@
 -- The actions of the lines of a script that ask, hold, answer, inject and stir.
-use Rattle.std.specs.Prelude.{ℕ, ◌+◌, ◌-◌, false, if◌then◌else◌, Result, Ok, Err, List, length}
+use Rattle.std.specs.Prelude.{ℕ, ◌+◌, ◌-◌, false, if◌then◌else◌, Result, Ok, Err, List, [], ◌∷◌}
+use Rattle.std.specs.Prelude.{◌++◌, length}
 use Rattle.gb_base.specs.declared.bridge.BridgeAsk.{BridgeAsk}
 use Rattle.gb_base.specs.declared.end.End.{End}
 use Rattle.gb_base.specs.declared.end.End.TheVariants as end
@@ -13,7 +14,7 @@ use Rattle.gb_formats.specs.Devices.{Stir}
 use Rattle.gb_formats.specs.Module.{Module}
 use Rattle.gb_formats.specs.ModuleSteps.{module_stir}
 use Rattle.gb_formats.specs.Results.{Stirred}
-use Rattle.gb_machine.specs.Actions.{Action, by_state, change, given, nothing, on_bus, on_host}
+use Rattle.gb_machine.specs.Actions.{Action, by_state, change, given, nothing, on_host}
 use Rattle.gb_machine.specs.Actions.{tell, ◌▸◌}
 use Rattle.gb_machine.specs.Arriving.{dropped, takes}
 use Rattle.gb_machine.specs.Asking.{asks}
@@ -108,10 +109,17 @@ answers i c place = by_state (λ s. given (module_place i c s) (answers_at place
 
 -- ---- what comes from outside
 
+-- raw bytes wait on a connection, which is remembered to be unclean
+abbrev pub with_injected : ℕ → List ℕ → State → State
+with_injected k bytes s = record s {
+  bus = injected k bytes s.bus;
+  past = record s.past { unclean = s.past.unclean ++ k ∷ [] };
+}
+
 -- raw bytes go from a module's CPort to the application processor
 unfoldable pub injects_at : ℕ → ℕ → List ℕ → Place → Action
 injects_at i c bytes p =
-    on_bus (injected p.connection.number bytes)
+    change (with_injected p.connection.number bytes)
     ▸ tell (entry.Raw (end.Module i c) (end.Ap p.connection.ap) (length bytes) bytes)
 
 -- Raw bytes are injected at a module's CPort.

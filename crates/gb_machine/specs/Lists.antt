@@ -2,7 +2,8 @@
 use Rattle.std.specs.Prelude.{ℕ, zero, suc, ◌+◌, ◌==◌, nat_le, nat_lt, Bool, false, ◌&&◌}
 use Rattle.std.specs.Prelude.{if◌then◌else◌, Option, Some, None, List, [], ◌∷◌, slice_get}
 use Rattle.gb_base.specs.declared.refusal.Refusal.{Refusal}
-pub use Rattle.gb_formats.specs.Lists.{first_free, without}
+unfoldable pub use Rattle.gb_formats.specs.Lists.{first_free}
+pub use Rattle.gb_formats.specs.Lists.{without}
 
 -- the n-th member, counted from 1
 abbrev pub nth : {A : Type 0} → ℕ → List A → Option A

@@ -1,11 +1,12 @@
 -- The actions of starting the supervisory controller, and of plugging and pulling modules.
-use Rattle.std.specs.Prelude.{ℕ, ◌+◌, true, if◌then◌else◌, is_some, List, [], ◌∷◌, ◌++◌, length}
+use Rattle.std.specs.Prelude.{ℕ, ◌+◌, ◌==◌, true, if◌then◌else◌, is_some, List, [], ◌∷◌, ◌++◌, length}
 use Rattle.std.specs.Prelude.{map}
 use Rattle.std.specs.List.{filter}
 use Rattle.gb_formats.specs.Module.{Module}
 use Rattle.gb_formats.specs.SvcRecords.{SvcAsk}
 use Rattle.gb_machine.specs.Actions.{Action, by_state, change, each, given, when, ◌▸◌}
 use Rattle.gb_machine.specs.Bus.{Bus, next_number, request_of}
+use Rattle.gb_machine.specs.Lists.{without}
 use Rattle.gb_machine.specs.Modules.{interfaces_of, is_primary, part_at, plugged, unplugged}
 use Rattle.gb_machine.specs.OwnAsking.{svc_asks}
 use Rattle.gb_machine.specs.Ports.{powered, unpowered}
@@ -51,10 +52,18 @@ plugs primary ms = by_state (λ s.
 abbrev pub wired_numbers : ℕ → Bus → List ℕ
 wired_numbers i b = map (λ c. c.number) (filter (is_wired_to i) b.connections)
 
--- what was plugged at an interface is pulled, and its power level and device id are gone
+-- what was plugged at an interface is pulled: its power level, its device id and its downloads are
+-- gone
 abbrev pub with_pulled : ℕ → State → State
-with_pulled i s =
-    record s { modules = unplugged i s.modules; ports = unpowered i s.ports }
+with_pulled i s = record s {
+  modules = unplugged i s.modules;
+  ports = unpowered i s.ports;
+  loads = without (λ l. l.intf == i) s.loads;
+  past = record s.past {
+    loading = without (λ t. t.intf == i) s.past.loading;
+    loaded = without (λ t. t.intf == i) s.past.loaded;
+  };
+}
 
 -- One interface of a module is pulled: its connections are unwired in order of number.
 unfoldable pub pulls_one : ℕ → Action

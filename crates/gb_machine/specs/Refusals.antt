@@ -1,6 +1,6 @@
 -- When an event is refused: refusals in their order, each with its condition.
-use Rattle.std.specs.Prelude.{ℕ, ◌+◌, ◌==◌, nat_lt, Bool, false, not, Option, is_some, is_none}
-use Rattle.std.specs.Prelude.{option_and_then, List, [], ◌∷◌, ◌++◌, length}
+use Rattle.std.specs.Prelude.{ℕ, ◌+◌, ◌==◌, nat_lt, Bool, false, not, ◌||◌, Option, is_some}
+use Rattle.std.specs.Prelude.{is_none, option_and_then, List, [], ◌∷◌, ◌++◌, length}
 use Rattle.std.specs.List.{list_any}
 use Rattle.gb_base.specs.declared.bridge.BridgeAsk.{BridgeAsk}
 use Rattle.gb_base.specs.declared.end.End.{End}
@@ -13,13 +13,16 @@ use Rattle.gb_base.specs.declared.name.Name.{Name}
 use Rattle.gb_base.specs.declared.refusal.Refusal.{Refusal}
 use Rattle.gb_base.specs.declared.refusal.Refusal.TheVariants as why
 use Rattle.gb_formats.specs.Devices.{Level, Serial, Stir}
+use Rattle.gb_formats.specs.Loader.{is_running}
+use Rattle.gb_formats.specs.Module.{cport_state, is_on}
+use Rattle.gb_formats.specs.ModuleLoads.{loader_at}
 use Rattle.gb_formats.specs.ModuleSteps.{module_stir}
 use Rattle.gb_formats.specs.Results.{most_payload}
 use Rattle.gb_machine.specs.Bus.{Place, outcome_of, place_of, queue}
 use Rattle.gb_machine.specs.Host.{control_of, link_at}
 use Rattle.gb_machine.specs.HostRefusals.{bridge_conditions, connect_conditions}
-use Rattle.gb_machine.specs.HostRefusals.{disconnect_conditions, drain_conditions, is_kept}
-use Rattle.gb_machine.specs.HostRefusals.{send_conditions}
+use Rattle.gb_machine.specs.HostRefusals.{disconnect_conditions, drain_conditions, image_conditions}
+use Rattle.gb_machine.specs.HostRefusals.{is_kept, send_conditions}
 use Rattle.gb_machine.specs.Holding.{held_on}
 use Rattle.gb_machine.specs.Labels.{next_label}
 use Rattle.gb_machine.specs.Lists.{Condition, conditions_of, first, first_met, holds_of, span}
@@ -149,6 +152,19 @@ stir_conditions s i c stir =
     ∷ (is_none (option_and_then (λ m. module_stir m c stir) plugged), why.NoCport)
     ∷ []
 
+-- when a firmware device can't begin to download
+abbrev pub load_conditions : State → ℕ → ℕ → List Condition
+load_conditions s i c =
+    let plugged = module_at i s.modules in
+    let loader = option_and_then (λ m. loader_at m c) plugged in
+    let place = module_place i c s in
+    (is_none plugged, why.NoInterface)
+    ∷ (is_none loader, why.NoCport)
+    ∷ (not (holds_of (λ m. is_on (cport_state m c)) plugged) || is_none place, why.NoConnection)
+    ∷ (holds_of is_running loader, why.Occupied)
+    ∷ (holds_of (λ p. has_no_label p.connection.number side.Far s) place, why.NoLabel)
+    ∷ []
+
 -- ---- all events
 
 -- The refusals of an event in their order, each with its condition.
@@ -182,6 +198,8 @@ conditions s (event.Copy x y) =
 conditions s (event.Forget name) = (not (is_bound name s), why.NoName) ∷ []
 conditions s (event.Inject i c bytes) =
     wired_conditions s i c ++ (nat_lt longest_message (length bytes), why.TooLarge) ∷ []
+conditions s (event.Image tag bytes) = image_conditions tag s.host
+conditions s (event.Load i c tag) = load_conditions s i c
 conditions s (event.Settle most) = []
 conditions s (event.Tick millis) = []
 conditions s event.Show = []

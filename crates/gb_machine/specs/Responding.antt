@@ -6,19 +6,22 @@ use Rattle.gb_base.specs.declared.end.End.TheVariants as end
 use Rattle.gb_base.specs.declared.end.Side.{Side}
 use Rattle.gb_base.specs.declared.end.Side.TheVariants as side
 use Rattle.gb_base.specs.declared.entry.Entry.TheVariants as entry
+use Rattle.gb_base.specs.declared.outcome.Outcome.TheVariants as outcome
 use Rattle.gb_formats.specs.Module.{Module}
 use Rattle.gb_formats.specs.ModuleSteps.{module_serve}
 use Rattle.gb_formats.specs.Results.{Step}
-use Rattle.gb_machine.specs.Actions.{Action, by_state, change, given, nothing, on_bus, on_host}
-use Rattle.gb_machine.specs.Actions.{tell, ◌▸◌}
+use Rattle.gb_machine.specs.Actions.{Action, by_state, change, each, given, nothing, on_bus}
+use Rattle.gb_machine.specs.Actions.{on_host, tell, ◌▸◌}
 use Rattle.gb_machine.specs.Bus.{Connection, other_side}
 use Rattle.gb_machine.specs.Delivery.{replied}
 use Rattle.gb_machine.specs.HostActs.{notices}
 use Rattle.gb_machine.specs.HostServing.{HostServed, host_serves}
 use Rattle.gb_machine.specs.Incoming.{Incoming, reply_entry, reply_item}
+use Rattle.gb_machine.specs.Loading.{load_follows}
 use Rattle.gb_machine.specs.Modules.{module_at, with_module}
 use Rattle.gb_machine.specs.OwnAsking.{far_asks_all}
 use Rattle.gb_machine.specs.Ports.{unrouted}
+use Rattle.gb_machine.specs.Requests.{open_on}
 use Rattle.gb_machine.specs.Serving.{Answer, answer, invalid, nonexistent, plainly, success}
 use Rattle.gb_machine.specs.State.{Port, State}
 use Rattle.gb_machine.specs.SvcTable.{Answered, Create, Destroy, SvcServed, SvcStep, Unroute}
@@ -52,11 +55,17 @@ creates (Some c) =
     if c.wired then responds_plainly invalid
     else responds_with (plainly success) (wires c.number)
 
+-- A connection is unwired, and the downloads fail whose requests ended so.
+unfoldable pub disconnects : ℕ → Action
+disconnects k = by_state (λ s.
+    unwires k
+    ▸ each (open_on k side.Far s.bus) (λ n. load_follows n outcome.Disconnected))
+
 -- a connection that is wired is unwired
 abbrev pub destroys : Option Connection → Response
 destroys None = responds_plainly nonexistent
 destroys (Some c) =
-    if c.wired then responds_with (plainly success) (unwires c.number)
+    if c.wired then responds_with (plainly success) (disconnects c.number)
     else responds_plainly nonexistent
 
 -- an interface without a wired connection loses its route

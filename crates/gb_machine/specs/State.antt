@@ -24,13 +24,30 @@ pub record Plugged : Type 0 where
   pub count : ℕ
   pub body : Module
 
+-- A request for which the firmware download at a module's CPort waits.
+pub record Load : Type 0 where
+  pub intf : ℕ
+  pub cport : ℕ
+  pub request : ℕ
+
+-- The requests of a firmware download at a module's CPort, over one connection.
+pub record Trail : Type 0 where
+  pub intf : ℕ
+  pub cport : ℕ
+  pub connection : ℕ
+  pub requests : List ℕ
+
 -- What only laws speak of, and no step reads: for which connection each request to create or
--- destroy one was made, which connections were ever wired, and which interfaces were pulled, each
--- behind the request that told it.
+-- destroy one was made, which connections were ever wired, on which bytes were injected, which
+-- interfaces were pulled, each behind the request that told it, and by which requests firmware
+-- devices load images and have loaded those that they keep.
 pub record Past : Type 0 where
   pub made_for : List (ℕ × ℕ)
   pub wired : List ℕ
+  pub unclean : List ℕ
   pub pulled : List (ℕ × ℕ)
+  pub loading : List Trail
+  pub loaded : List Trail
 
 -- The state of the machine: the bus, the supervisory controller, the modules, the application
 -- processor and the names of its requests.
@@ -42,6 +59,7 @@ pub record State : Type 0 where
   pub held : List Held  -- in the order in which they were taken
   pub ports : List Port
   pub modules : List Plugged  -- the interfaces rise
+  pub loads : List Load  -- what running downloads wait for
   pub host : Host
   pub names : List (Name × ℕ)  -- the request that each name names
   pub past : Past
@@ -56,7 +74,15 @@ first_state = record {
   held = [];
   ports = [];
   modules = [];
+  loads = [];
   host = first_host;
   names = [];
-  past = record { made_for = []; wired = []; pulled = [] };
+  past = record {
+    made_for = [];
+    wired = [];
+    unclean = [];
+    pulled = [];
+    loading = [];
+    loaded = [];
+  };
 }
