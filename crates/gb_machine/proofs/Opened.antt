@@ -17,7 +17,7 @@ use Rattle.gb_machine.specs.LineActions.{copies, holds, injects, injects_at, sen
 use Rattle.gb_machine.specs.LineActions.{serves_held, stirred, stirs}
 use Rattle.gb_machine.specs.Lists.{first_free}
 use Rattle.gb_machine.specs.Loading.{asks_at, asks_next, begins, fails_unasked, goes_on, load_ended}
-use Rattle.gb_machine.specs.Loading.{load_follows, loads, module_goes_on}
+use Rattle.gb_machine.specs.Loading.{load_follows, loads}
 use Rattle.gb_machine.specs.OwnAsking.{far_asks, far_asks_all, svc_asks}
 use Rattle.gb_machine.specs.Plugging.{boots, plugs, pulls, pulls_module, pulls_one}
 use Rattle.gb_machine.specs.Plugging.{tells_inserted, tells_removed}
@@ -63,7 +63,6 @@ lines_opened = tt
 -- firmware downloads
 unfoldable pub loading_opened : ⊤
 unfolding asks_at asks_next begins fails_unasked goes_on load_ended load_follows loads
-    module_goes_on
 loading_opened = tt
 
 -- the whole machine

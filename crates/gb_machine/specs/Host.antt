@@ -153,9 +153,9 @@ abbrev pub with_freed : ℕ → Host → Host
 with_freed k h = record h { images = forgotten k h.images }
 
 -- the ids of connections are free
-abbrev pub with_all_freed : List Link → Host → Host
-with_all_freed [] h = h
-with_all_freed (l ∷ ls) h = with_all_freed ls (with_freed l.connection h)
+abbrev pub all_forgotten : List Link → Images → Images
+all_forgotten [] x = x
+all_forgotten (l ∷ ls) x = all_forgotten ls (forgotten l.connection x)
 
 -- ---- manifests
 

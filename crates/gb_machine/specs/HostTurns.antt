@@ -13,7 +13,7 @@ use Rattle.gb_base.specs.declared.steps.Purpose.{Purpose}
 use Rattle.gb_base.specs.declared.steps.SequenceStep.TheVariants as steps
 use Rattle.gb_formats.specs.Manifest.{CportView}
 use Rattle.gb_machine.specs.Host.{Host, cport_of, free_cport, in_state, interface_of, interfaces_of}
-use Rattle.gb_machine.specs.Host.{is_draining, is_intf, link_at, link_of, with_all_freed, with_freed}
+use Rattle.gb_machine.specs.Host.{all_forgotten, is_draining, is_intf, link_at, link_of, with_freed}
 use Rattle.gb_machine.specs.Host.{with_link, with_new_interface}
 use Rattle.gb_machine.specs.Lists.{span, without}
 use Rattle.gb_machine.specs.SequenceSteps.{purpose}
@@ -47,17 +47,18 @@ links_left (l ∷ ls) =
     Act.Shut l.connection ∷ Act.Leave l.connection ∷ Act.Tell (link_told state.Closed l)
     ∷ links_left ls
 
--- the host without an interface and its connections, and what their sequences wait for
+-- the host without an interface and its connections, what their sequences wait for, and their ids
 abbrev pub without_interface : ℕ → Host → Host
 without_interface i h = record h {
   interfaces = without (is_intf i) h.interfaces;
   links = without (λ l. l.intf == i) h.links;
+  images = all_forgotten (links_of i h) h.images;
 }
 
--- An interface is absent: its connections are closed in order of number, and their ids are free.
+-- An interface is absent: its connections are closed in order of number.
 abbrev pub host_removed : ℕ → Host → Turn
 host_removed i h =
-    turn (without_interface i (with_all_freed (links_of i h) h))
+    turn (without_interface i h)
     (links_left (links_of i h) ++ Act.Tell (entry.Interface i stage.Removed) ∷ [])
 
 -- a connection with a protocol is made on a CPort of the application processor

@@ -24,7 +24,7 @@ pub record Plugged : Type 0 where
   pub count : ℕ
   pub body : Module
 
--- A request for which the firmware download at a module's CPort waits.
+-- The last request that the firmware device at a module's CPort made. Its download waits for it.
 pub record Load : Type 0 where
   pub intf : ℕ
   pub cport : ℕ
@@ -59,7 +59,7 @@ pub record State : Type 0 where
   pub held : List Held  -- in the order in which they were taken
   pub ports : List Port
   pub modules : List Plugged  -- the interfaces rise
-  pub loads : List Load  -- what running downloads wait for
+  pub loads : List Load  -- of each firmware device that made a request
   pub host : Host
   pub names : List (Name × ℕ)  -- the request that each name names
   pub past : Past
