@@ -1,0 +1,4 @@
+-- Firmware devices: what they keep, and what they fetch.
+pub mod ImageFacts
+pub mod RecordsBack
+pub mod LoaderSteps
