@@ -2,3 +2,5 @@
 pub mod ImageFacts
 pub mod RecordsBack
 pub mod LoaderSteps
+pub mod ServedImages
+pub mod Fetched
