@@ -218,12 +218,13 @@ module _ (m : Moment) (at : End) (p : Place) (item : Item) (q : Incoming)
 
 -- ---- FETCH
 
-ok-of : FirmwareAsk → Result FirmwareAsk PayloadFault
-ok-of ask = Ok ask
+ok-or : FirmwareAsk → Result FirmwareAsk PayloadFault → FirmwareAsk
+ok-or other (Ok ask) = ask
+ok-or other (Err fault) = other
 
 -- what a read tells is one
-same-ok : (x y : FirmwareAsk) → ok-of x ≡ ok-of y → x ≡ y
-same-ok x y e = cc
+same-ok : (x y : FirmwareAsk) → Ok x ≡ Ok y → x ≡ y
+same-ok x y e = ap (ok-or x) e
 
 -- a reply that is told is that of a FETCH, with its bytes
 has-bytes : (m : Moment) (k : ℕ) (q : Incoming) (bytes : List ℕ) → q.kind ≡ 0x02
