@@ -4,3 +4,8 @@ pub mod RecordsBack
 pub mod LoaderSteps
 pub mod ServedImages
 pub mod Fetched
+pub mod HostImages
+pub mod FirmwareQueues
+pub mod NextPieces
+pub mod Running
+pub mod RunningMoved

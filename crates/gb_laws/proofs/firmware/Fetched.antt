@@ -218,13 +218,10 @@ module _ (m : Moment) (at : End) (p : Place) (item : Item) (q : Incoming)
 
 -- ---- FETCH
 
-ok-or : FirmwareAsk → Result FirmwareAsk PayloadFault → FirmwareAsk
+-- what is read, or something else
+abbrev ok-or : FirmwareAsk → Result FirmwareAsk PayloadFault → FirmwareAsk
 ok-or other (Ok ask) = ask
 ok-or other (Err fault) = other
-
--- what a read tells is one
-same-ok : (x y : FirmwareAsk) → Ok x ≡ Ok y → x ≡ y
-same-ok x y e = ap (ok-or x) e
 
 -- a reply that is told is that of a FETCH, with its bytes
 has-bytes : (m : Moment) (k : ℕ) (q : Incoming) (bytes : List ℕ) → q.kind ≡ 0x02
@@ -254,7 +251,7 @@ has-bytes m k q bytes kind done is = by (read_firmware_ask q.kind q.payload) ref
         way : (t : Bool) → cond t (Ok (FirmwareAsk.Fetch id offset size)) (Err
             (PayloadFault.Mismatch (min (length q.payload) (9 + 1)))) ≡ Ok ask
             → (i : ℕ) × (at : ℕ) × (n : ℕ) × (ask ≡ FirmwareAsk.Fetch i at n)
-        way true f = (id, offset, size, same-ok ask (FirmwareAsk.Fetch id offset size) (sym f))
+        way true f = (id, offset, size, sym (ap (ok-or ask) f))
         way false f = absurd cc
 
     by : (r : Result FirmwareAsk PayloadFault) → read_firmware_ask q.kind q.payload ≡ r
