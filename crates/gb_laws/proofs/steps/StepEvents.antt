@@ -16,7 +16,7 @@ use Rattle.gb_base.specs.declared.peers.Link.{Link}
 use Rattle.gb_base.specs.declared.refusal.Refusal.TheVariants as why
 use Rattle.gb_formats.specs.{Bridges.BridgeFault, Bridges.bridge_answer, Devices.Stir}
 use Rattle.gb_formats.specs.{Grammar.default_timeout, Module.Module, ModuleSteps.module_stir}
-use Rattle.gb_formats.specs.{Results.Stirred}
+use Rattle.gb_formats.specs.{ModuleLoads.loader_at, Results.Stirred}
 use Rattle.gb_machine.proofs.{Conditions.AreUnmet, Conditions.free, Opened.machine_opened}
 use Rattle.gb_machine.proofs.{Options.none-of}
 use Rattle.gb_machine.specs.Actions.{by_state, change, given, on_bus, on_host, tell, ◌▸◌}
@@ -40,8 +40,9 @@ use Rattle.gb_invariants.proofs.{Lists.found-in}
 use Rattle.gb_laws.proofs.points.PointParts.{AreSilent, IsGivenUpFor, Untouched}
 use Rattle.gb_laws.proofs.points.Points.{IsBridge, IsPlain, Law, as_before, binds}
 use Rattle.gb_laws.proofs.points.Points.{gives_up as giving_up}
-use Rattle.gb_laws.proofs.points.Points.{injects as injecting, names, others, spends}
+use Rattle.gb_laws.proofs.points.Points.{injects as injecting, loader_in, names, others, spends}
 use Rattle.gb_laws.proofs.svc.StayPlugged.{module-plugs, open-takes, place-module, same-plugs}
+use Rattle.gb_laws.proofs.steps.LoaderStays.{keeps-module, module-there, same-loaders, stir-keeps}
 use Rattle.gb_laws.proofs.steps.StepActions.{At, goes-far_asks_all, goes-tell_all}
 use Rattle.gb_laws.proofs.steps.StepPlugs.{Rests, rests-nothing, rests-▸}
 use Rattle.gb_laws.proofs.points.LowTypes.{AreLow, bridge-low, stir-low}
@@ -160,18 +161,19 @@ module _ (m : Moment) (law : Law m) where
   unfolding machine_opened
   rests-stirs i c stir s = at_module (module_at i s.modules) refl
     where
-      placed : (t : Stirred Module) → AreLow t.asks → (w : State) (o : Option Place)
-          → module_place i c w ≡ o
+      placed : (t : Stirred Module) → AreLow t.asks → (w : State)
+          → loader_in i c w.modules ≡ None → (o : Option Place) → module_place i c w ≡ o
           → Rests m law (given o (λ p. far_asks_all p.connection.number t.asks)) w
-      placed t low w None e = rests-nothing m law w
-      placed t low w (Some p) e = λ told at.
-          goes-far_asks_all m (acting m law) [] Untouched p.connection.number t.asks w
-          (place-module i c w.bus p (law.basis _ at).bus.numbers.rise e) low told at
+      placed t low w none None e = rests-nothing m law w
+      placed t low w none (Some p) e = λ told at.
+          goes-far_asks_all m (acting m law) [] Untouched i c p.connection.number t.asks w
+          (place-module i c w.bus p (law.basis _ at).bus.numbers.rise e) low (inr none) told at
 
-      stirred_by : (x : Module) (o : Option (Stirred Module)) → module_stir x c stir ≡ o
-          → Rests m law (given o (stirred i c)) s
-      stirred_by x None is = rests-nothing m law s
-      stirred_by x (Some t) is =
+      stirred_by : (x : Module) → module_at i s.modules ≡ Some x → (o : Option (Stirred Module))
+          → module_stir x c stir ≡ o → Rests m law (given o (stirred i c)) s
+      stirred_by x there None is = rests-nothing m law s
+      stirred_by x there (Some t) is =
+          let keeps = stir-keeps x c stir t is in
           rests-▸ m law (change (λ w. record w { modules = with_module i t.after w.modules }))
           (by_state (λ w. given (module_place i c w)
           (λ p. far_asks_all p.connection.number t.asks))) s
@@ -181,14 +183,16 @@ module _ (m : Moment) (law : Law m) where
             as_before refl,
             record { hand = refl; pending = refl; asked = refl },
             λ k n. inl n,
-          ))) at)
+          ), keeps-module i t.after x s.modules there keeps.0)) at)
           (placed t (stir-low x c stir t is)
-          (record s { modules = with_module i t.after s.modules }) (module_place i c s) refl)
+          (record s { modules = with_module i t.after s.modules })
+          (ap (option_and_then (λ y. loader_at y c)) (module-there i t.after x s.modules there)
+          ∙ keeps.1) (module_place i c s) refl)
 
       at_module : (o : Option Module) → module_at i s.modules ≡ o
           → Rests m law (given o (λ x. given (module_stir x c stir) (stirred i c))) s
       at_module None e = rests-nothing m law s
-      at_module (Some x) e = stirred_by x (module_stir x c stir) refl
+      at_module (Some x) e = stirred_by x e (module_stir x c stir) refl
 
   pub rests-holds : (i c : ℕ) (s : State) → Rests m law (holds i c) s
   unfolding machine_opened
@@ -203,7 +207,7 @@ module _ (m : Moment) (law : Law m) where
             as_before refl,
             record { hand = refl; pending = refl; asked = refl },
             place-marked i c s p e,
-          ))) at
+          ), same-loaders s.modules)) at
 
   pub rests-injects : (i c : ℕ) (bytes : List ℕ) (s : State) → Rests m law (injects i c bytes) s
   unfolding machine_opened

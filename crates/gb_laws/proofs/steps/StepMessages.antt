@@ -15,6 +15,7 @@ use Rattle.gb_machine.specs.Incoming.{Incoming, reply_item, request_in}
 use Rattle.gb_machine.specs.Responding.{Response, replies as replying, response_at}
 use Rattle.gb_machine.specs.Responding.{serves as serving, serves_oneway}
 use Rattle.gb_machine.specs.{Delivery.ended, Delivery.forgotten, HostActs.follows}
+use Rattle.gb_machine.specs.{HostServing.host_serves}
 use Rattle.gb_machine.specs.{Requests.given_up_with, Requests.open_with, Runs.Moment}
 use Rattle.gb_machine.specs.{Serving.success, State.State}
 use Rattle.gb_machine.specs.Arriving as arriving
@@ -94,6 +95,16 @@ module _ (m : Moment) (law : Law m) where
           (same-connection s.bus.connections x k.now basis.bus.numbers.rise n.0 k.live
           (n.1 ∙ sym k.self.number)) ∙ k.self.peer
 
+      -- the application processor answers as it serves
+      serves-so : (t : Side) → t ≡ side.Ap → (s.host ≡ m.before.host)
+          × ((response_at t c q s).answer
+          ≡ (host_serves c.number q.kind q.payload m.before.host).answer)
+      serves-so side.Ap is = (
+        same.0,
+        ap (λ h. (host_serves c.number q.kind q.payload h).answer) same.0,
+      )
+      serves-so side.Far is = absurd cc
+
       oneway : HasPeer c.number c.peer s.bus → (t : Bool) → Ends m law (Some (hand_of c at item))
           (cond t (response_at at c q s).behind (tell (entry.Ignored q.kind))) s
       oneway peer true = dropped-first (hand_of c at item) (response_at at c q s).behind s
@@ -107,7 +118,7 @@ module _ (m : Moment) (law : Law m) where
       by peer false e =
           then-ends (replying at c q (response_at at c q s).answer) (response_at at c q s).behind s
           (λ told now. law.kept _ (replies (hand_of c at item) q (response_at at c q s).answer refl
-          made e) now) (ends-response m law c at q s
+          made (e, serves-so at)) now) (ends-response m law c at q s
           taken (replied_to (response_at at c q s).answer refl)
           refl refl (peer-replied c.number (other_side at)
           (reply_item q (response_at at c q s).answer) c.peer s.bus peer) same refl refl)

@@ -17,6 +17,7 @@ use Rattle.gb_invariants.proofs.Found.{none-any}
 use Rattle.gb_laws.proofs.points.PointParts.{Hand, Untouched, Unwired, Wired, Wires}
 use Rattle.gb_laws.proofs.points.Points.{IsCreated, IsLive, Law, PortsFrom, others, unwires, wires}
 use Rattle.gb_laws.proofs.svc.Powering.{IsReady, IsRouted, port-powered}
+use Rattle.gb_laws.proofs.steps.LoaderStays.{same-loaders}
 use Rattle.gb_laws.proofs.steps.StepActions.{At, Goes, goes-nothing}
 use Rattle.gb_laws.proofs.{points.Places.ComesFrom, points.Places.LivesOn, steps.ServedOn.Comes}
 use Rattle.gb_laws.proofs.{steps.ServedOn.joining-live}
@@ -53,7 +54,7 @@ module _ (m : Moment) (law : Law m) where
       from,
       record { hand = refl; pending = refl; asked = refl },
       λ k i. inl i,
-    ))) at,
+    ), same-loaders s.modules)) at,
   )
 
   pub ends-nothing : {s : State} → Ends None nothing s

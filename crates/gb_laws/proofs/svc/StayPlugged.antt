@@ -19,7 +19,7 @@ use Rattle.gb_invariants.proofs.{Lists.two-at_first, Numbers.found-number, Numbe
 use Rattle.gb_invariants.specs.Facts.{IsBefore}
 use Rattle.gb_laws.proofs.{points.Places.module-far, points.Places.place-is}
 use Rattle.gb_laws.proofs.{points.Points.SamePlugs}
-use Rattle.gb_laws.proofs.{steps.StepActions.IsToModule}
+use Rattle.gb_laws.proofs.{steps.ServedOn.HasPeer}
 use Rattle.gb_laws.proofs.marks.Wholes.{AreElsewhere, plugged_at, whole-changed}
 
 -- ---- what stays plugged
@@ -93,15 +93,13 @@ open-takes l met = by l.state met.0 met.1.0 met.1.1.0
     by state.Closed h k f = absurd cc
     by state.Failed h k f = absurd cc
 
--- what is at a module's CPort is to a module
+-- what is at a module's CPort is to it
 pub place-module : (i c : ℕ) (b : Bus) (p : Place) → EachTwo IsBefore b.connections
-    → place_of (end.Module i c) b.connections ≡ Some p → IsToModule p.connection.number b
+    → place_of (end.Module i c) b.connections ≡ Some p
+    → HasPeer p.connection.number (end.Module i c) b
 place-module i c b p rise e x f =
     let q = place-is (end.Module i c) b.connections p e in
     let n = found-number p.connection.number b x f in
-    let is = same-connection b.connections x p.connection rise n.0 q.live n.1 in (
-      i,
-      c,
-      ap (λ (y : Connection). y.peer) is
-          ∙ sym (ap (λ s. end_of s p.connection) (module-far i c p.side p.connection q.is)) ∙ q.is,
-    )
+    let is = same-connection b.connections x p.connection rise n.0 q.live n.1 in
+    ap (λ (y : Connection). y.peer) is
+    ∙ sym (ap (λ s. end_of s p.connection) (module-far i c p.side p.connection q.is)) ∙ q.is
