@@ -1,4 +1,6 @@
 -- Steps: a law goes over the actions of the machine, and over the step of each event.
+pub mod LoaderStays
+pub mod LoaderEnds
 pub mod StepActions
 pub mod StepActLaws
 pub mod StepActs
