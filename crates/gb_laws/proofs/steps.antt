@@ -10,6 +10,7 @@ pub mod StepIdles
 pub mod StepLoads
 pub mod StepServes
 pub mod StepSvcServes
+pub mod Heard
 pub mod StepMessages
 pub mod StepDelivers
 pub mod Ticking

@@ -331,7 +331,7 @@ module _ (m : Moment) (law : Law m) where
       goes-▸ m (acting m law) (host_follows n how) (load_follows n how)
       (goes-host_follows m (acting m law) (λ a h. (law.basis a h).drains) n how s over)
       (rests-load_follows Untouched n how (host_follows n how s).state (λ payload is.
-      let h = hears payload is in (h.0, still.0 ∙ h.1.0, still.1 ∙ h.1.1))) told at
+      let h = hears payload is in (h.0, (still.0 ∙ h.1.0, still.1 ∙ h.1.1)))) told at
 
   -- requests were disconnected
   pub rests-loads_fail : (wires : Wires) (ns : List ℕ) (s : State)

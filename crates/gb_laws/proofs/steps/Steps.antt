@@ -17,7 +17,7 @@ use Rattle.gb_laws.proofs.points.PointParts.{Untouched, Wires, resting}
 use Rattle.gb_laws.proofs.points.Points.{IsBridge, IsOfSvc, Law, frees, tells}
 use Rattle.gb_laws.proofs.steps.LoaderStays.{AreFirst, first-kind, first-raw}
 use Rattle.gb_laws.proofs.steps.StepEvents.{rests-bridges, rests-cancels, rests-copies, rests-holds}
-use Rattle.gb_laws.proofs.steps.StepEvents.{rests-injects, rests-sends, rests-shows, rests-stirs}
+use Rattle.gb_laws.proofs.steps.StepEvents.{rests-gives, rests-injects, rests-sends, rests-shows, rests-stirs}
 use Rattle.gb_laws.proofs.{steps.StepActLaws.acting}
 use Rattle.gb_laws.proofs.{steps.StepActions.At, steps.StepActs.goes-notice}
 use Rattle.gb_laws.proofs.{steps.StepDelivers.ends-answers}
@@ -26,7 +26,7 @@ use Rattle.gb_laws.proofs.{steps.StepPlugs.rests-plugs}
 use Rattle.gb_laws.proofs.{steps.StepSvcServes.Ends, steps.StepSvcServes.ends-going}
 use Rattle.gb_laws.proofs.{steps.Ticking.ends-pulls}
 use Rattle.gb_laws.proofs.{steps.Ticking.rests-ticks}
-use Rattle.gb_laws.proofs.steps.StepIdles.{goes-drains}
+use Rattle.gb_laws.proofs.{steps.StepIdles.goes-drains, steps.StepLoads.rests-loads}
 
 -- the loaders of modules of kinds are in their first state
 kinds-first : (kinds : List Kind) → Each AreFirst (map module_of_kind kinds)
@@ -84,6 +84,10 @@ module _ (m : Moment) (law : Law m) where
       ends-going m law (does (event.Tick millis)) (rests-ticks m law millis is)
   ends-does (event.Inject i c bytes) is one free = ends-going m law
       (does (event.Inject i c bytes)) (rests-injects m law i c bytes m.before)
+  ends-does (event.Image tag bytes) is one free =
+      ends-going m law (does (event.Image tag bytes)) (rests-gives m law tag bytes is free)
+  ends-does (event.Load i c tag) is one free =
+      ends-going m law (does (event.Load i c tag)) (rests-loads m law i c tag is free)
   ends-does event.Show is one free =
       ends-going m law (does event.Show) (rests-shows m law m.before)
 
