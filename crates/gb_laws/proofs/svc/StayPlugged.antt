@@ -14,7 +14,7 @@ use Rattle.gb_machine.specs.{Arriving.state_takes, Members.EachTwo}
 use Rattle.gb_invariants.proofs.{Numbers.found-number, Numbers.same-connection}
 use Rattle.gb_invariants.specs.Facts.{IsBefore}
 use Rattle.gb_laws.proofs.{points.Places.module-far, points.Places.place-is}
-use Rattle.gb_laws.proofs.{steps.StepActions.IsToModule}
+use Rattle.gb_laws.proofs.{steps.ServedOn.HasPeer}
 pub use Rattle.gb_laws.proofs.points.LoaderFacts.{module-plugs, same-plugs}
 
 -- where a module is plugged, the power of its interface is off
@@ -39,15 +39,13 @@ open-takes l met = by l.state met.0 met.1.0 met.1.1.0
     by state.Closed h k f = absurd cc
     by state.Failed h k f = absurd cc
 
--- what is at a module's CPort is to a module
+-- what is at a module's CPort is to it
 pub place-module : (i c : ℕ) (b : Bus) (p : Place) → EachTwo IsBefore b.connections
-    → place_of (end.Module i c) b.connections ≡ Some p → IsToModule p.connection.number b
+    → place_of (end.Module i c) b.connections ≡ Some p
+    → HasPeer p.connection.number (end.Module i c) b
 place-module i c b p rise e x f =
     let q = place-is (end.Module i c) b.connections p e in
     let n = found-number p.connection.number b x f in
-    let is = same-connection b.connections x p.connection rise n.0 q.live n.1 in (
-      i,
-      c,
-      ap (λ (y : Connection). y.peer) is
-          ∙ sym (ap (λ s. end_of s p.connection) (module-far i c p.side p.connection q.is)) ∙ q.is,
-    )
+    let is = same-connection b.connections x p.connection rise n.0 q.live n.1 in
+    ap (λ (y : Connection). y.peer) is
+    ∙ sym (ap (λ s. end_of s p.connection) (module-far i c p.side p.connection q.is)) ∙ q.is
