@@ -9,3 +9,9 @@ pub mod FirmwareQueues
 pub mod NextPieces
 pub mod Running
 pub mod RunningMoved
+pub mod FirmwareOnward
+pub mod RunningStays
+pub mod PiecesKnown
+pub mod RunningNew
+pub mod HeardBack
+pub mod RunningKept

@@ -4,8 +4,10 @@ use Rattle.std.proofs.Common.{subst, suc, sym, true, zero, ℕ, [], ◌++◌, �
 use Rattle.std.proofs.Common.{◌≡◌, ◌≤◌}
 use Rattle.std.proofs.lemmas.Bool.Decides.{nat_tests}
 use Rattle.std.specs.List.{list_all}
-use Rattle.std.specs.Prelude.{IsTrue, Ok, drop, min, nat_le, nat_lt, option_map, replicate}
+use Rattle.std.specs.Prelude.{Ok, drop, min, nat_le, nat_lt, option_map, replicate}
 use Rattle.std.specs.Prelude.{◌&&◌, ◌==◌}
+use Rattle.std.proofs.Common.{length-append}
+use Rattle.std.proofs.lemmas.List.{length-replicate}
 use Rattle.std.proofs.Math.Nat.{add-zero}
 use Rattle.byteorder.specs.Endian.{little_number}
 use Rattle.byteorder.specs.Numbers.{little_number-reads_back}
@@ -72,3 +74,15 @@ padded-spells tag h =
     let short = (both-true (nat_lt 0 (length tag)) (nat_le (length tag) 9) p.0).1 in
     spelled-behind tag (replicate (10 - length tag) 0) p.1
     (zeros-spell (10 - length tag) (grind (arith, nat_tests)))
+
+-- a padded tag fills its field
+pub padded-length : (tag : List ℕ) → is_tag tag ≡ true → length (padded tag) ≡ 10
+padded-length tag h =
+    let p = both-true (nat_lt 0 (length tag) && nat_le (length tag) 9) (list_all is_name_byte tag) h
+    in
+    let short = (both-true (nat_lt 0 (length tag)) (nat_le (length tag) 9) p.0).1 in
+    let low : length tag ≤ 9 = grind (arith, nat_tests) in
+    let sum = length-append tag (replicate (10 - length tag) 0) in
+    let zero_byte : ℕ = 0 in
+    let rest = length-replicate (10 - length tag) zero_byte in
+    omega (arith, low, sum, rest)
