@@ -15,3 +15,4 @@ pub mod PiecesKnown
 pub mod RunningNew
 pub mod HeardBack
 pub mod RunningKept
+pub mod RunningGoes
