@@ -2,7 +2,7 @@
 
 ghost use Rattle.std.specs.Prelude.{◌≡◌, ◌<◌, ◌≤◌, ◌++◌, IsOk, Ok, length, min, ◌-◌};
 ghost use Rattle.gb_base.specs.Bytes.{AreFew};
-ghost use Rattle.gb_firmware.specs.Loading.{TurnsAs};
+ghost use Rattle.gb_firmware.specs.Loading.{TurnsAs, TurnsFew};
 ghost use Rattle.gb_formats.specs.FirmwareRecords.{read_firmware_reply};
 ghost use Rattle.gb_formats.specs.Loader as formats;
 
@@ -70,6 +70,7 @@ impl Download {
     /// more than few, it takes memory. After want of memory it is as before.
     pub fn ended(&mut self, alloc: Global, outcome: &Outcome) -> Result<Turn, OutOfMemory>
         ensures step { TurnsAs (formats.ended_so outcome.now self.old) self.old self.new result }
+        ensures few { TurnsFew (formats.ended_so outcome.now self.old) result }
     {
         let Outcome::Answered { result, payload } = outcome else {
             return Ok(Turn::Fails);
@@ -84,6 +85,7 @@ impl Download {
     fn answered(&mut self, alloc: Global, payload: &[u8]) -> Result<Turn, OutOfMemory>
         ensures step { TurnsAs (formats.answered self.old.awaits payload.now self.old)
             self.old self.new result }
+        ensures few { TurnsFew (formats.answered self.old.awaits payload.now self.old) result }
     {
         match self.awaits {
             Awaits::Find => Ok(self.found(alloc, payload)),
@@ -115,6 +117,7 @@ impl Download {
         requires { self.old.awaits ≡ formats.Awaits.Fetch id size }
         ensures step { TurnsAs (formats.fetched id size payload.now self.old)
             self.old self.new result }
+        ensures few { TurnsFew (formats.fetched id size payload.now self.old) result }
     {
         if payload.len() != self.piece(size) {
             return Ok(Turn::Fails);

@@ -5,7 +5,7 @@ ghost use Rattle.std.specs.Prelude.{drop, find, take};
 ghost use Rattle.std.specs.List.{list_any};
 ghost use Rattle.gb_bridge_payload.specs.Serving.{ServesAs};
 ghost use Rattle.gb_firmware.specs.Lending.{FewSucceed, PutsAs};
-ghost use Rattle.gb_formats.specs.FirmwareRecords.{FirmwareReply, firmware_reply_payload};
+ghost use Rattle.gb_formats.specs.FirmwareRecords as records;
 ghost use Rattle.gb_formats.specs.Images as formats;
 ghost use Rattle.gb_formats.specs.Lists.{first_free};
 ghost use Rattle.gb_formats.specs.Results.{answer_of};
@@ -252,7 +252,8 @@ fn piece(bytes: &[u8], offset: u32, size: u32) -> Option<&[u8]>
 
 /// The answer that an image of this size is lent under an id. It takes no memory.
 fn lent(alloc: Global, id: u8, size: usize) -> Served
-    ensures { result ≡ answer_of (firmware_reply_payload (FirmwareReply.Find id size)) }
+    ensures { result ≡ answer_of (records.firmware_reply_payload
+        (records.FirmwareReply.Find id size)) }
 {
     let reply = FirmwareReply::Find {
         id,
