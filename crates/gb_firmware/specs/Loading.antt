@@ -12,7 +12,7 @@ use Rattle.gb_firmware.specs.declared.download.Turn.{Turn}
 use Rattle.gb_firmware.specs.declared.download.Turn.TheVariants as turn
 use Rattle.gb_firmware.specs.declared.loader.LoadFault.{LoadFault}
 use Rattle.gb_firmware.specs.declared.loader.LoadFault.TheVariants as fault
-use Rattle.gb_formats.specs.Loader.{Awaits, Download, Loaded, Loader, ended_so, fails, find_ask}
+use Rattle.gb_formats.specs.Loader.{Awaits, Download, Loaded, Loader, fails, find_ask}
 use Rattle.gb_formats.specs.Loader.{goes_on, is_done, is_running, loader_begun, loader_ended}
 
 -- ---- views

@@ -1,7 +1,6 @@
 //! A running download.
 
-ghost use Rattle.std.specs.Prelude.{◌≡◌, ◌<◌, ◌≤◌, ◌++◌, IsOk, Ok, length, min, ◌-◌};
-ghost use Rattle.gb_base.specs.Bytes.{AreFew};
+ghost use Rattle.std.specs.Prelude.{◌≡◌, ◌≤◌, Ok, [], length};
 ghost use Rattle.gb_firmware.specs.Loading.{TurnsAs, TurnsFew};
 ghost use Rattle.gb_formats.specs.FirmwareRecords.{read_firmware_reply};
 ghost use Rattle.gb_formats.specs.Loader as formats;
@@ -96,7 +95,7 @@ impl Download {
 
     /// FIND was answered with success.
     fn found(&mut self, alloc: Global, payload: &[u8]) -> Turn
-        requires { self.old.awaits ≡ formats.Awaits.Find }
+        requires { self.old.bytes ≡ [] }
         ensures { TurnsAs (formats.found (read_firmware_reply 0x01 payload.now) self.old)
             self.old self.new (Ok result) }
     {
