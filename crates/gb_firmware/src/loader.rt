@@ -2,7 +2,7 @@
 
 ghost use Rattle.std.specs.Prelude.{◌≡◌, true, false, None, Some, IsOk, MatchOption};
 ghost use Rattle.gb_base.specs.Bytes.{AreFew};
-ghost use Rattle.gb_firmware.specs.Loading.{BeginsAs, EndsAs, bytes_after};
+ghost use Rattle.gb_firmware.specs.Loading.{BeginsAs, EndsAs, FinishesAs, bytes_after};
 ghost use Rattle.gb_formats.specs.Loader.{first_loader, is_running, loader_ended, loader_failed};
 ghost use Rattle.gb_formats.specs.Loader.{loader_tag};
 
@@ -62,13 +62,20 @@ impl Loader {
         self.kept = None;
     }
 
+    /// Whether a download runs.
+    pub fn is_running(&self) -> bool
+        ensures { result ≡ is_running self.now }
+    {
+        self.running.is_some()
+    }
+
     /// Begins to download the image of a tag, and answers the first request. Running exactly where
     /// a download runs; the loader is then as before. It never answers want of memory.
     pub fn begin(&mut self, tag: &Tag) -> Result<OwnAsk, LoadFault>
         ensures step { BeginsAs tag.now self.old self.new result }
         ensures few { is_running self.old ≡ false → IsOk result }
     {
-        if self.running.is_some() {
+        if self.is_running() {
             return Err(LoadFault::Running);
         }
         self.running = Some(Download {
@@ -100,6 +107,7 @@ impl Loader {
     /// The running download is done: the image is kept.
     fn finish(&mut self) -> Next
         requires { is_running self.old ≡ true }
+        ensures { FinishesAs self.old.running self.old self.new result }
     {
         let Some(download) = self.running.take() else {
             unreachable!()
