@@ -1,4 +1,5 @@
 pub mod Again
+pub mod FirmwareLaws
 pub mod Fronts
 pub mod GpioLaws
 pub mod I2cLaws

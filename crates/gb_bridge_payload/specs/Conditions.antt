@@ -1,6 +1,7 @@
--- Which records can be written: each count and length fits its field, and the data is as long as
--- the ops or the entries say.
+-- Which records can be written: each count and length fits its field, a name and a tag are as long
+-- as their fields, and the data is as long as the ops or the entries say.
 use Rattle.std.specs.Prelude.{◌≡◌, ◌<◌, ◌*◌, ◌/◌, ⊤, ℕ, List, length, sum_by}
+use Rattle.gb_formats.specs.FirmwareRecords.{FirmwareAsk, tag_field}
 use Rattle.gb_formats.specs.I2cRecords.{I2cAsk, op_size, op_written_size, ops_at}
 use Rattle.gb_formats.specs.LoopbackRecords.{LoopbackAsk, LoopbackReply}
 use Rattle.gb_formats.specs.SpiRecords.{SpiAsk, SpiReply, entries_at, entry_size}
@@ -48,3 +49,7 @@ abbrev pub IsLoopbackReply : LoopbackReply → Type 0
 IsLoopbackReply LoopbackReply.Ping = ⊤
 IsLoopbackReply (LoopbackReply.Transfer first second bytes) = length bytes < 4294967296
 IsLoopbackReply LoopbackReply.Sink = ⊤
+
+abbrev pub IsFirmwareAsk : FirmwareAsk → Type 0
+IsFirmwareAsk (FirmwareAsk.Find tag) = length tag ≡ tag_field
+IsFirmwareAsk ask = ⊤

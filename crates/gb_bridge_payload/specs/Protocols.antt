@@ -1,5 +1,9 @@
 -- The records of each direction of the protocols.
 use Rattle.gb_payload.specs.Meaning.{Format}
+use Rattle.gb_formats.specs.FirmwareRecords.{FirmwareAsk, FirmwareReply, firmware_ask_kind}
+use Rattle.gb_formats.specs.FirmwareRecords.{firmware_ask_payload, firmware_reply_kind}
+use Rattle.gb_formats.specs.FirmwareRecords.{firmware_reply_payload, read_firmware_ask}
+use Rattle.gb_formats.specs.FirmwareRecords.{read_firmware_reply}
 use Rattle.gb_formats.specs.GpioRecords.{GpioAsk, gpio_ask_kind, gpio_ask_payload, read_gpio_ask}
 use Rattle.gb_formats.specs.GpioRecords.{GpioReply, gpio_reply_kind, gpio_reply_payload}
 use Rattle.gb_formats.specs.GpioRecords.{read_gpio_reply}
@@ -60,4 +64,17 @@ loopback_replies = record {
   read = read_loopback_reply;
   kind = loopback_reply_kind;
   payload = loopback_reply_payload;
+}
+
+-- requests of the Firmware Download protocol
+abbrev pub firmware_asks : Format FirmwareAsk
+firmware_asks =
+    record { read = read_firmware_ask; kind = firmware_ask_kind; payload = firmware_ask_payload }
+
+-- responses of the Firmware Download protocol
+abbrev pub firmware_replies : Format FirmwareReply
+firmware_replies = record {
+  read = read_firmware_reply;
+  kind = firmware_reply_kind;
+  payload = firmware_reply_payload;
 }

@@ -1,5 +1,6 @@
 -- The records that values of the code stand for.
 use Rattle.std.specs.Prelude.{ℕ, List}
+use Rattle.gb_formats.specs.FirmwareRecords as firmware
 use Rattle.gb_formats.specs.GpioRecords as gpio
 use Rattle.gb_formats.specs.I2cRecords as i2c
 use Rattle.gb_formats.specs.LoopbackRecords as loopback
@@ -8,6 +9,10 @@ use Rattle.gb_formats.specs.UartRecords as uart
 use Rattle.gb_bridge_payload.specs.declared.carried.Carried.{Carried}
 use Rattle.gb_bridge_payload.specs.declared.transfer_entry.TransferEntry.{TransferEntry}
 use Rattle.gb_bridge_payload.specs.declared.transfer_op.TransferOp.{TransferOp}
+use Rattle.gb_bridge_payload.specs.declared.firmware_ask.FirmwareAsk.{FirmwareAsk}
+use Rattle.gb_bridge_payload.specs.declared.firmware_ask.FirmwareAsk.TheVariants as firm_ask
+use Rattle.gb_bridge_payload.specs.declared.firmware_reply.FirmwareReply.{FirmwareReply}
+use Rattle.gb_bridge_payload.specs.declared.firmware_reply.FirmwareReply.TheVariants as firm_reply
 use Rattle.gb_bridge_payload.specs.declared.gpio_ask.GpioAsk.{GpioAsk}
 use Rattle.gb_bridge_payload.specs.declared.gpio_ask.GpioAsk.TheVariants as gpio_ask_is
 use Rattle.gb_bridge_payload.specs.declared.gpio_reply.GpioReply.{GpioReply}
@@ -150,3 +155,15 @@ loopback_reply_of loop_reply.Ping = loopback.LoopbackReply.Ping
 loopback_reply_of (loop_reply.Transfer c) =
     loopback.LoopbackReply.Transfer c.first c.second c.bytes.now
 loopback_reply_of loop_reply.Sink = loopback.LoopbackReply.Sink
+
+-- a request of the Firmware Download protocol
+abbrev pub firmware_ask_of : FirmwareAsk → firmware.FirmwareAsk
+firmware_ask_of (firm_ask.Find tag) = firmware.FirmwareAsk.Find tag.now
+firmware_ask_of (firm_ask.Fetch id offset size) = firmware.FirmwareAsk.Fetch id offset size
+firmware_ask_of (firm_ask.Release id) = firmware.FirmwareAsk.Release id
+
+-- a response of the Firmware Download protocol
+abbrev pub firmware_reply_of : FirmwareReply → firmware.FirmwareReply
+firmware_reply_of (firm_reply.Find id size) = firmware.FirmwareReply.Find id size
+firmware_reply_of (firm_reply.Fetch bytes) = firmware.FirmwareReply.Fetch bytes.now
+firmware_reply_of firm_reply.Release = firmware.FirmwareReply.Release

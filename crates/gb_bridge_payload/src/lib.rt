@@ -1,8 +1,12 @@
-//! Reads and writes the payloads of the bridged protocols: GPIO, I2C, SPI, UART and Loopback.
+//! Reads and writes the payloads of the bridged protocols, GPIO, I2C, SPI, UART and Loopback, and
+//! of Firmware Download.
 #![tactic(auto)]
 
 mod bridge_fault;
 mod carried;
+mod firmware_ask;
+pub mod firmware_kinds;
+mod firmware_reply;
 mod gpio_ask;
 pub mod gpio_kinds;
 mod gpio_reply;
@@ -27,8 +31,10 @@ mod writing;
 
 pub use bridge_fault::BridgeFault;
 pub use carried::Carried;
+pub use firmware_ask::{FirmwareAsk, TAG_FIELD};
+pub use firmware_reply::FirmwareReply;
 pub use gb_payload::{
-    INVALID, NONEXISTENT, OVERFLOW, PROTOCOL_BAD, PayloadFault, SUCCESS, fault_result,
+    INVALID, NONEXISTENT, OVERFLOW, PROTOCOL_BAD, PayloadFault, RETRY, SUCCESS, fault_result,
 };
 pub use gpio_ask::GpioAsk;
 pub use gpio_reply::GpioReply;

@@ -1,4 +1,5 @@
 pub mod Ascii
+pub mod FirstFree
 pub mod JudgedValid
 pub mod MadeValid
 pub mod SaidValid
@@ -12,6 +13,7 @@ pub mod VectorsBridges
 pub mod VectorsCaptures
 pub mod VectorsDevices
 pub mod VectorsEntries
+pub mod VectorsFirmware
 pub mod VectorsForms
 pub mod VectorsGpioDevice
 pub mod VectorsGpioI2cRecords

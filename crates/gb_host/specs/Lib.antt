@@ -1,6 +1,7 @@
 pub mod Asking
 pub mod Bridging
 pub mod Changes
+pub mod Images
 pub mod Indexes
 pub mod Marks
 pub mod Named

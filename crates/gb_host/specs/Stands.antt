@@ -6,11 +6,12 @@ use Rattle.gb_host.specs.declared.host.Host.{Host}
 use Rattle.gb_host.specs.declared.host.IntfView.{IntfView}
 use Rattle.gb_machine.specs.Host as machine
 
--- the machine's application processor with the same interfaces and connections
+-- the machine's application processor with the same interfaces, connections and images
 abbrev pub host_of : Host → machine.Host
-host_of x = record { interfaces = x.interfaces; links = x.links.live.items }
+host_of x = record { interfaces = x.interfaces; links = x.links.live.items; images = x.images }
 
--- The value stands for this application processor: interfaces and connections are the same.
+-- The value stands for this application processor: interfaces, connections and images are
+-- the same.
 abbrev pub Stands : Host → machine.Host → Type 0
 Stands x h = h ≡ host_of x
 

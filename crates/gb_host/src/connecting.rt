@@ -52,7 +52,7 @@ impl Host {
         }
     }
 
-    /// The close sequence of a connection begins.
+    /// The close sequence of a connection begins, and its ids are free.
     pub(crate) fn disconnect(
         &mut self,
         acts: Acts,
@@ -73,6 +73,7 @@ impl Host {
             step: SequenceStep::TellDisconnecting,
         };
         let acts = self.ask_in_state(acts, purpose, ConnState::Closing)?;
+        self.images.forget(link.connection);
         Ok(acts)
     }
 

@@ -7,6 +7,7 @@ ghost use Rattle.gb_machine.specs.Host.{first_host, interface_of, link_of};
 use crate::connections::Connections;
 use crate::interfaces::Interfaces;
 use gb_base::{ConnState, Interface, IntfStage, OutOfMemory};
+use gb_firmware::Images;
 use std::alloc::Global;
 
 /// The connection of the supervisory controller.
@@ -31,19 +32,20 @@ pub struct Pending {
 }
 
 /// The application processor. It knows the interfaces that modules were inserted at, and its
-/// connections to modules.
+/// connections to modules, and it has firmware images.
 #[derive(Drop)]
 pub struct Host {
     pub(crate) alloc: Global,
     pub(crate) interfaces: Interfaces,
     pub(crate) links: Connections,
+    pub(crate) images: Images,
     pub(crate) pending: Option<Pending>,
 }
 
 impl Host {
     ghost use Rattle.gb_host.specs.Stands.{Stands, view_of};
 
-    /// The application processor before anything was inserted.
+    /// The application processor before anything was inserted or an image was given.
     pub fn new(alloc: Global) -> Result<Host, OutOfMemory>
         ensures { IfOk result (λ x. Stands x first_host) }
     {
@@ -51,6 +53,7 @@ impl Host {
             alloc,
             interfaces: Interfaces::new(alloc),
             links: Connections::new(alloc)?,
+            images: Images::new(alloc)?,
             pending: None,
         })
     }

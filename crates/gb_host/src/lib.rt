@@ -1,5 +1,5 @@
-//! The application processor: what it knows of interfaces and connections, and what it does
-//! of its own.
+//! The application processor: what it knows of interfaces and connections, the firmware images that
+//! it lends, and what it does of its own.
 #![tactic(auto)]
 
 mod acts;
@@ -12,6 +12,7 @@ mod ends;
 mod enumerating;
 mod failing;
 mod host;
+mod images;
 mod interfaces;
 mod links;
 mod payloads;
@@ -24,5 +25,6 @@ mod turning;
 mod waiting;
 
 pub use acts::{Act, Acts};
+pub use gb_firmware::PutFault;
 pub use host::{Host, IntfView};
 pub use served::HostServed;

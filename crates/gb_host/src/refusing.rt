@@ -22,7 +22,7 @@ use gb_base::{ConnState, Interface, IntfStage, Refusal};
 use gb_bridge_payload::uart_kinds::SEND_DATA;
 use gb_manifest::{CportView, check};
 use gb_payload::control_kinds::{CONNECTED, DISCONNECTED, DISCONNECTING};
-use gb_payload::protocols::{GPIO, I2C, LOOPBACK, SPI, UART};
+use gb_payload::protocols::{FIRMWARE, GPIO, I2C, LOOPBACK, SPI, UART};
 
 impl Host {
     ghost use Rattle.gb_host.specs.Refusing.{RefusesAs, SendsAs};
@@ -165,9 +165,9 @@ pub(crate) fn declared(interface: &Interface, cport: u16) -> Option<CportView>
     if view.bundle == 0 { None } else { Some(view) }
 }
 
-/// The protocol of a CPort is connected: GPIO, I2C, UART, SPI or Loopback.
+/// The protocol of a CPort is connected: GPIO, I2C, UART, SPI, Loopback or Firmware Download.
 fn is_bridged(view: CportView) -> bool
     ensures { result ≡ is_bridged (view_of view) }
 {
-    matches!(view.protocol, GPIO | I2C | UART | SPI | LOOPBACK)
+    matches!(view.protocol, GPIO | I2C | UART | SPI | LOOPBACK | FIRMWARE)
 }

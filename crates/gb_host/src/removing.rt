@@ -3,13 +3,14 @@
 ghost use Rattle.std.specs.Prelude.{◌≡◌, ◌==◌, ◌++◌, ◌∷◌, [], OnOk, IfOk};
 ghost use Rattle.std.specs.List.{filter, list_any};
 ghost use Rattle.gb_host.specs.Turning.{spelled};
-ghost use Rattle.gb_machine.specs.Host.{interfaces_of};
+ghost use Rattle.gb_machine.specs.Host.{all_forgotten, interfaces_of};
 ghost use Rattle.gb_machine.specs.HostTurns.{host_removed, links_left, links_of, one_by_one};
 
 use crate::connecting::leave;
 use crate::failing::tell_interface;
 use crate::{Act, Acts, Host};
 use gb_base::{IntfStage, Link, OutOfMemory};
+use gb_firmware::Images;
 
 impl Host {
     ghost use Rattle.gb_host.specs.Stands.{host_of};
@@ -76,11 +77,12 @@ impl Host {
         Ok(acts)
     }
 
-    /// Interfaces and their connections are there no more.
+    /// Interfaces and their connections are there no more, and the ids of these are free.
     fn forget(&mut self, intfs: &[u8])
         ensures { host_of self.new ≡ (one_by_one host_removed intfs.now (host_of self.old)).host }
     {
         for intf in intfs {
+            free(&mut self.images, self.links.items(), *intf);
             self.interfaces.remove(*intf);
             self.links.remove_all(*intf);
         }
@@ -100,6 +102,17 @@ fn close(acts: &mut Acts, link: Link, intf: u8) -> Result<(), OutOfMemory>
     })?;
     leave(acts, link)?;
     Ok(())
+}
+
+/// The ids of the connections of an interface are free.
+fn free(images: &mut Images, links: &[Link], intf: u8)
+    ensures { images.new ≡ all_forgotten (filter (λ l. l.intf == intf) links.now) images.old }
+{
+    for link in links {
+        if link.intf == intf {
+            images.forget(link.connection);
+        }
+    }
 }
 
 /// An interface is one of these.

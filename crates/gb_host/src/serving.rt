@@ -9,28 +9,28 @@ ghost use Rattle.gb_formats.specs.UartDevice.{credits_added};
 ghost use Rattle.gb_machine.specs.Host as machine;
 ghost use Rattle.gb_machine.specs.HostServing.{credited, host_answers, host_notices, host_refuses};
 ghost use Rattle.gb_machine.specs.HostServing.{host_serves, host_tells, host_version, interrupted};
-ghost use Rattle.gb_machine.specs.HostServing.{notified, served_on, serves_gpio, serves_svc};
-ghost use Rattle.gb_machine.specs.HostServing.{serves_uart, uart_notified};
+ghost use Rattle.gb_machine.specs.HostServing.{notified, served_on, serves_firmware, serves_gpio};
+ghost use Rattle.gb_machine.specs.HostServing.{serves_svc, serves_uart, uart_notified};
 ghost use Rattle.gb_payload.specs.Answers.{fault_of};
 ghost use Rattle.gb_payload.specs.Views.{svc_ask_of};
 
 use crate::{Host, HostServed};
-use gb_base::{Bytes, Entry, HostEvent, Link, OutOfMemory};
+use gb_base::{Bytes, Entry, HostEvent, Link, OutOfMemory, Served};
 use gb_bridge_payload::{GpioAsk, INVALID, PROTOCOL_BAD, SUCCESS, UartAsk, fault_result};
 use gb_payload::SvcAsk;
-use gb_payload::protocols::{GPIO, UART};
+use gb_payload::protocols::{FIRMWARE, GPIO, UART};
 use gb_uart::MOST_CREDITS;
 
 /// The version of the SVC protocol: major, then minor.
 const SVC_VERSION: [u8; 2] = [0, 1];
 
 impl Host {
-    ghost use Rattle.gb_host.specs.Serving.{IsSmallTold, ServesAs, served_of};
+    ghost use Rattle.gb_host.specs.Serving.{IsSmallServed, IsSmallTold, ServesAs, served_of};
     ghost use Rattle.gb_host.specs.Stands.{Stands, host_of};
 
     /// Serves a request on a connection to a module, or on that of the supervisory controller.
-    /// Only data of more than 16 bytes takes memory. After want of memory nothing has changed, and
-    /// at each answer the same connection is pending.
+    /// Only an answer or data of more than 16 bytes takes memory, and an image that is lent. After
+    /// want of memory nothing has changed, and at each answer the same connection is pending.
     pub fn serve(
         &mut self,
         connection: u64,
@@ -40,7 +40,7 @@ impl Host {
         ensures step { (h : machine.Host) → Stands self.old h
             → ServesAs (host_serves connection kind payload.now h) self.old self.new result }
         ensures few { (h : machine.Host) → Stands self.old h
-            → IsSmallTold (host_serves connection kind payload.now h).told → IsOk result }
+            → IsSmallServed (host_serves connection kind payload.now h) h → IsOk result }
         ensures pending { self.new.pending ≡ self.old.pending }
     {
         match self.links.of(connection) {
@@ -58,13 +58,14 @@ impl Host {
     ) -> Result<HostServed, OutOfMemory>
         ensures step { ServesAs (served_on (Some link) kind payload.now (host_of self.old))
             self.old self.new result }
-        ensures few { IsSmallTold
-            (served_on (Some link) kind payload.now (host_of self.old)).told → IsOk result }
+        ensures few { IsSmallServed (served_on (Some link) kind payload.now (host_of self.old))
+            (host_of self.old) → IsOk result }
         ensures pending { self.new.pending ≡ self.old.pending }
     {
         match link.protocol {
             GPIO => Ok(self.serve_gpio(link, kind, payload)),
             UART => self.serve_uart(link, kind, payload),
+            FIRMWARE => self.serve_firmware(link, kind, payload),
             _ => Ok(self.refuses(PROTOCOL_BAD)),
         }
     }
@@ -199,6 +200,32 @@ impl Host {
             intf: link.intf,
             cport: link.cport,
             total,
+        })
+    }
+
+    /// Serves a request of a firmware device.
+    fn serve_firmware(
+        &mut self,
+        link: Link,
+        kind: u8,
+        payload: &[u8],
+    ) -> Result<HostServed, OutOfMemory>
+        ensures step { ServesAs (serves_firmware link kind payload.now (host_of self.old))
+            self.old self.new result }
+        ensures few { IsSmallServed (serves_firmware link kind payload.now (host_of self.old))
+            (host_of self.old) → IsOk result }
+        ensures pending { self.new.pending ≡ self.old.pending }
+    {
+        let Served {
+            result,
+            payload,
+            asks: _,
+        } = self.images.serve(link.connection, kind, payload)?;
+        Ok(HostServed {
+            result,
+            payload,
+            tell: None,
+            then: None,
         })
     }
 

@@ -18,7 +18,7 @@ pub use control_ask::ControlAsk;
 pub use control_reply::ControlReply;
 pub use fault::PayloadFault;
 pub use reading::{Fields, mismatch};
-pub use results::{INVALID, NONEXISTENT, OVERFLOW, PROTOCOL_BAD, SUCCESS, fault_result};
+pub use results::{INVALID, NONEXISTENT, OVERFLOW, PROTOCOL_BAD, RETRY, SUCCESS, fault_result};
 pub use svc_ask::SvcAsk;
 pub use svc_reply::SvcReply;
 pub use writing::{Field, put};

@@ -17,3 +17,6 @@ pub const SPI: u8 = 0x0b;
 
 /// The protocol of a loopback device.
 pub const LOOPBACK: u8 = 0x11;
+
+/// The protocol of a firmware device, which downloads images.
+pub const FIRMWARE: u8 = 0x17;

@@ -19,6 +19,9 @@ pub const OVERFLOW: u8 = 0x05;
 /// The payload, a value or the state doesn't fit.
 pub const INVALID: u8 = 0x06;
 
+/// It can't be served now.
+pub const RETRY: u8 = 0x07;
+
 /// What is asked for isn't there.
 pub const NONEXISTENT: u8 = 0x08;
 

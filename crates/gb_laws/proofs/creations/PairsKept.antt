@@ -42,14 +42,15 @@ pairs-kept m a (asks d c label free live drawn who) links r f =
     a.asked (awaited_by m a c d who) (keeps-requests m a (asks d c label free live drawn who))
     (omega arith) (come-same a.state.host) (by who) f
   where
+    still : (q : Asking) (n : ℕ) → a.asked ≡ Some (q, n)
+        → IsAskedAs q n (sent d label a.state.bus) a.state.past.made_for
+    still q n e = asked-more q n a.state.bus (sent d label a.state.bus) a.state.past.made_for
+        (keeps-requests m a (asks d c label free live drawn who)) (f.asks q n e)
+
     by : (w : IsAskedBy m a c d) (q : Asking) (n : ℕ) → awaited_by m a c d w ≡ Some (q, n)
         → IsAskedAs q n (sent d label a.state.bus) a.state.past.made_for
-    by (by_far far on unloaded) q n e = asked-more q n a.state.bus (sent d label a.state.bus)
-        a.state.past.made_for (keeps-requests m a (asks d c label free live drawn who))
-        (f.asks q n e)
-    by (by_loader x going far on) q n e = asked-more q n a.state.bus (sent d label a.state.bus)
-        a.state.past.made_for (keeps-requests m a (asks d c label free live drawn who))
-        (f.asks q n e)
+    by (by_far far on unloaded) q n e = still q n e
+    by (by_loader x going far on) q n e = still q n e
     by (by_host p rest is draft none) q n e =
         subst (λ (w : Asking × ℕ). IsAskedAs w.0 w.1 (sent d label a.state.bus)
         a.state.past.made_for) (same-some (p, next_number a.state.bus) (q, n) e)

@@ -21,8 +21,8 @@ use Rattle.gb_machine.specs.Arriving.{takes}
 use Rattle.gb_machine.specs.Bus.{Ask, Connection, Item, Raw, RawReply, Reply, Request, request_of}
 use Rattle.gb_machine.specs.Host.{Host, link_of, with_link}
 use Rattle.gb_machine.specs.HostServing.{HostServed, credited, host_refuses, host_serves, served_on}
-use Rattle.gb_machine.specs.HostServing.{serves_firmware, serves_gpio, serves_uart, uart_notified_by}
-use Rattle.gb_machine.specs.HostServing.{with_credits}
+use Rattle.gb_machine.specs.HostServing.{serves_firmware, serves_gpio, serves_uart}
+use Rattle.gb_machine.specs.HostServing.{uart_notified_by, with_credits}
 use Rattle.gb_machine.specs.Incoming.{Incoming, incoming, incoming_raw, is_request, raw_request}
 use Rattle.gb_machine.specs.Incoming.{request_in}
 use Rattle.gb_machine.specs.Responding.{host_served, replies, responds, serves_oneway}

@@ -62,10 +62,6 @@ one-deaf : (b : Bus) (ls : List Link) {x : Link} (k : ℕ) → LinksFit b ls →
 one-deaf b ls {x} k fits i on deaf l j e =
     subst IsDeaf (one-link ls x l fits.rise i j (on ∙ sym e)) deaf
 
--- where a connection is closing
-closing : (i c : ℕ) → Host → Host
-closing i c h = with_link i c (in_state state.Closing) h
-
 -- what is done, once the connection is found
 fits-closing : (b : Bus) (i c : ℕ) (h : Host) (l : Link) → HostFits b h → c ≢ 0
     → find (is_link i c) h.links ≡ Some l → l.awaits ≡ None

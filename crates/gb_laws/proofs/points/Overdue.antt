@@ -10,9 +10,8 @@ use Rattle.gb_machine.proofs.{Lists.nth-within, Opened.machine_opened}
 use Rattle.gb_machine.specs.Bus.{Bus, Request, is_open, next_number, outcome_of, request_of}
 use Rattle.gb_machine.specs.Requests.{gave_up, is_due, is_of, open_on, open_requests}
 use Rattle.gb_machine.specs.{GivingUp.gives_up, GivingUp.later_by, HostActs.host_follows}
-use Rattle.gb_machine.specs.{Lists.lookup, Lists.nth}
-use Rattle.gb_machine.specs.{Members.Each, Members.IsIn, Runs.Moment, Sending.Draft, Sending.sent}
-use Rattle.gb_machine.specs.{State.State}
+use Rattle.gb_machine.specs.{Lists.lookup, Lists.nth, Members.Each, Members.IsIn, Runs.Moment}
+use Rattle.gb_machine.specs.{Sending.Draft, Sending.sent, State.State}
 use Rattle.gb_machine.specs.Wiring.{all_ended, shut_down, with_connection}
 use Rattle.gb_invariants.proofs.Awaiting.{is-open, opened, sent-request}
 use Rattle.gb_invariants.proofs.Outcomes.{in-open_requests, lookup-past, open_requests-in}
@@ -20,11 +19,11 @@ use Rattle.gb_laws.proofs.points.PointParts.{IsLate, IsShutFor, Point, disconnec
 use Rattle.gb_laws.proofs.points.Points.{Change, acts_asked, acts_failed, acts_left, acts_opened}
 use Rattle.gb_laws.proofs.points.Points.{acts_shut, acts_told, asks, by_far, by_host, by_loader}
 use Rattle.gb_laws.proofs.points.Points.{changed, tells, turns}
-use Rattle.gb_laws.proofs.{points.Awaited.awaited-rest, steps.StepActLaws.ActLaw}
-use Rattle.gb_laws.proofs.{steps.StepActLaws.IsActing}
+use Rattle.gb_laws.proofs.{points.Awaited.awaited-rest, steps.LoadFailures.load-fails}
+use Rattle.gb_laws.proofs.{steps.StepActLaws.ActLaw, steps.StepActLaws.IsActing}
+use Rattle.gb_laws.proofs.{steps.StepIdles.goes-host_follows}
 use Rattle.gb_laws.proofs.links.DrainingKept.{FirstDrainsAt, draining-kept}
 use Rattle.gb_laws.proofs.links.Draining.{FirstDrains}
-use Rattle.gb_laws.proofs.{steps.LoadFailures.load-fails, steps.StepIdles.goes-host_follows}
 
 -- ---- requests that are late stay open until they are given up
 

@@ -1,13 +1,13 @@
 -- What is known of a response that is delivered at a moment: its request was made at the side where
 -- it is delivered, on the connection in hand.
-use Rattle.std.proofs.Common.{Bool, Some, ap, cond, false, inl, refl, subst, sym, true, ℕ, [], ◌∙◌}
-use Rattle.std.proofs.Common.{List, None, ◌≡◌}
+use Rattle.std.proofs.Common.{Bool, List, Some, ap, cond, false, inl, refl, subst, sym, true, ℕ, []}
+use Rattle.std.proofs.Common.{◌∙◌, ◌≡◌}
 use Rattle.std.specs.Prelude.{◌==◌}
 use Rattle.gb_base.specs.declared.end.End.{End}
 use Rattle.gb_base.specs.declared.event.Event.TheVariants as event
 use Rattle.gb_base.specs.declared.outcome.Outcome.TheVariants as outcome
 use Rattle.gb_formats.specs.Results.{success}
-use Rattle.gb_machine.specs.Bus.{Bus, Place, Reply, Request, is_open, place_of, queue, request_of}
+use Rattle.gb_machine.specs.Bus.{Bus, Reply, is_open, place_of, queue, request_of}
 use Rattle.gb_machine.specs.Delivery.{answered, popped}
 use Rattle.gb_machine.specs.{Lists.first, Requests.is_of, Requests.same_side, Runs.Moment}
 use Rattle.gb_machine.specs.{State.State}
@@ -30,8 +30,9 @@ pub record IsDelivered (m : Moment) (s : State) (h : Hand) : Type 0 where
   pub from : s ≡ record m.before { bus = popped h.connection.number h.side m.before.bus }
 
 -- the request that a response answers was made at this side of this connection
-answers-own : (h : Hand) (n : ℕ) (loose : List Loose) (b : Bus) → BusFits (loose_hand (Some h) loose) b
-    → Answers h n b → IsMadeOn h.connection.number h.side n b
+answers-own : (h : Hand) (n : ℕ) (loose : List Loose) (b : Bus)
+    → BusFits (loose_hand (Some h) loose) b → Answers h n b
+    → IsMadeOn h.connection.number h.side n b
 answers-own h n loose b fits (by_number result payload is clean unended) =
     subst (λ i. IsOwn b h.connection.number h.side i) is (fits.items.own_loose _ (inl refl))
 answers-own h n loose b fits (by_label label dirty is) =

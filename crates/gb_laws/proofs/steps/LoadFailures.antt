@@ -2,18 +2,17 @@
 -- nothing is asked.
 use Rattle.std.proofs.Common.{List, None, Option, Some, ap, refl, subst, sym, ℕ, [], ◌++◌, ◌∙◌, ◌∷◌}
 use Rattle.std.proofs.Common.{◌≡◌}
-use Rattle.gb_base.specs.declared.download.Next.{Next}
 use Rattle.gb_base.specs.declared.entry.Entry.{Entry}
 use Rattle.gb_base.specs.declared.outcome.Outcome.{Outcome}
 use Rattle.gb_base.specs.declared.outcome.Outcome.TheVariants as outcome
 use Rattle.gb_formats.specs.Module.{Module}
 use Rattle.gb_formats.specs.ModuleLoads.{ModuleLoaded, module_ended}
 use Rattle.gb_machine.proofs.Opened.{machine_opened}
-use Rattle.gb_machine.specs.Actions.{Action, Told, each, given}
+use Rattle.gb_machine.specs.Actions.{Told, each, given}
 use Rattle.gb_machine.specs.Loading.{goes_on, load_ended, load_follows, load_of}
 use Rattle.gb_machine.specs.{Modules.module_at, Modules.with_module, State.Load, State.Plugged}
 use Rattle.gb_machine.specs.{State.State}
-use Rattle.gb_laws.proofs.points.PointParts.{AreSilent, is_silent}
+use Rattle.gb_laws.proofs.points.PointParts.{AreSilent}
 use Rattle.gb_laws.proofs.steps.LoaderEnds.{IsSuccess, ModuleFollows, asks, done, failed}
 use Rattle.gb_laws.proofs.steps.LoaderEnds.{module-follows}
 

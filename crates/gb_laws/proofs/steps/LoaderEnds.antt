@@ -1,9 +1,8 @@
 -- What follows where the request that a module's loader waits for ended: another request or the end
 -- of the download behind an answer of success, or a failure.
-use Rattle.std.proofs.Common.{Bool, List, None, Option, Some, ap, arith, cond, false, inl, inr, refl}
-use Rattle.std.proofs.Common.{subst, sym, true, ℕ, [], ◌<◌, ◌∙◌, ◌∷◌, ◌≡◌}
+use Rattle.std.proofs.Common.{Bool, List, None, Option, Some, ap, arith, cond, false, inr, refl}
+use Rattle.std.proofs.Common.{subst, sym, true, ℕ, ◌<◌, ◌∙◌, ◌≡◌}
 use Rattle.std.specs.Prelude.{Err, Ok, Result, length, option_map, ◌++◌, ◌==◌}
-use Rattle.gb_base.specs.declared.download.Next.{Next}
 use Rattle.gb_base.specs.declared.download.Next.TheVariants as next
 use Rattle.gb_base.specs.declared.outcome.Outcome.{Outcome}
 use Rattle.gb_base.specs.declared.outcome.Outcome.TheVariants as outcome
@@ -15,14 +14,14 @@ use Rattle.gb_formats.specs.Loader.{fails, fetch_ask, fetched, fetches, found, g
 use Rattle.gb_formats.specs.Loader.{loader_failed, piece, release_ask, released}
 use Rattle.gb_formats.specs.Module.{Module, ModulePort, is_on, port_at, with_changed}
 use Rattle.gb_formats.specs.ModuleLoads.{ModuleLoaded, device_ended, if_may_ask, loader_at}
-use Rattle.gb_formats.specs.ModuleLoads.{loader_changed, loader_of, module_ended, module_fail, port_ended}
-use Rattle.gb_formats.specs.ModuleLoads.{port_loaded, port_loader, unasked}
+use Rattle.gb_formats.specs.ModuleLoads.{loader_changed, loader_of, module_ended, module_fail}
+use Rattle.gb_formats.specs.ModuleLoads.{port_ended, port_loaded, port_loader, unasked}
 use Rattle.gb_formats.specs.Records.{PayloadFault}
 use Rattle.gb_formats.specs.Results.{success}
 use Rattle.gb_invariants.proofs.Awaiting.{none-some, same-some}
 use Rattle.gb_invariants.proofs.Outcomes.{same-number}
-use Rattle.gb_laws.proofs.steps.LoaderStays.{KeepsEach, keeps-one, loader-else}
-use Rattle.gb_laws.proofs.steps.LoaderStays.{loader-there, own-number, own-port, port-changed}
+use Rattle.gb_laws.proofs.steps.LoaderStays.{KeepsEach, keeps-one, loader-else, loader-there}
+use Rattle.gb_laws.proofs.steps.LoaderStays.{own-number, own-port, port-changed}
 
 -- ---- a loader
 

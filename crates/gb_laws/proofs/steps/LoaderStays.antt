@@ -1,7 +1,7 @@
 -- How the loaders of a module's firmware devices stay where it serves and is stirred, and where
 -- modules are plugged and pulled.
-use Rattle.std.proofs.Common.{Bool, List, None, Option, Some, ap, cond, false, inl, inr, refl, subst}
-use Rattle.std.proofs.Common.{sym, true, ℕ, ⊎_elim, [], ◌∙◌, ◌∷◌, ◌≡◌, ◌⊎◌}
+use Rattle.std.proofs.Common.{Bool, List, None, Option, Some, ap, cond, false, inl, inr, refl}
+use Rattle.std.proofs.Common.{subst, sym, true, ℕ, ⊎_elim, [], ◌∙◌, ◌∷◌, ◌≡◌, ◌⊎◌}
 use Rattle.std.specs.List.{find}
 use Rattle.std.specs.Prelude.{Err, Ok, Result, option_and_then, option_map, ◌==◌}
 use Rattle.gb_base.specs.declared.event.Kind.{Kind}
@@ -10,8 +10,7 @@ use Rattle.gb_formats.specs.ControlRecords.{ControlAsk, read_control_ask}
 use Rattle.gb_formats.specs.ControlResponder.{control_asked, control_read, is_off, is_quiet}
 use Rattle.gb_formats.specs.ControlResponder.{made_quiet, turn_step, turned_off, turned_on}
 use Rattle.gb_formats.specs.Descriptors.{Descriptor}
-use Rattle.gb_formats.specs.Devices.{Device, Stir, device_of, device_step}
-use Rattle.gb_formats.specs.Devices.{device_stir}
+use Rattle.gb_formats.specs.Devices.{Device, Stir, device_of, device_step, device_stir}
 use Rattle.gb_formats.specs.GpioDevice.{first_gpio}
 use Rattle.gb_formats.specs.I2cDevice.{first_i2c}
 use Rattle.gb_formats.specs.SpiDevice.{first_spi}
@@ -23,15 +22,17 @@ use Rattle.gb_formats.specs.Loader.{Loader, first_loader}
 use Rattle.gb_formats.specs.Manifest.{Manifest, check_answer}
 use Rattle.gb_formats.specs.ManifestRules.{Refused}
 use Rattle.gb_formats.specs.ManifestSpec.{CportSpec}
-use Rattle.gb_formats.specs.Module.{CportState, Module, ModulePort, device_outside, first_port, if_on}
-use Rattle.gb_formats.specs.Module.{is_on, is_port, module_of_kind, module_raw, port_at, port_onto}
-use Rattle.gb_formats.specs.Module.{ports_in, ports_of, raw_ports, with_changed, with_port}
+use Rattle.gb_formats.specs.Module.{CportState, Module, ModulePort, device_outside, first_port}
+use Rattle.gb_formats.specs.Module.{if_on, is_on, is_port, module_of_kind, module_raw, port_at}
+use Rattle.gb_formats.specs.Module.{port_onto, ports_in, ports_of, raw_ports, with_changed}
+use Rattle.gb_formats.specs.Module.{with_port}
 use Rattle.gb_formats.specs.ModuleLoads.{loader_at, loader_of, port_loader}
 use Rattle.gb_formats.specs.ModuleSteps.{module_serve, module_stir, port_served, port_stir}
 use Rattle.gb_formats.specs.ModuleSteps.{port_stirred}
 use Rattle.gb_formats.specs.Records.{PayloadFault}
-use Rattle.gb_formats.specs.Results.{Step, Stirred, refuses}
-use Rattle.gb_machine.specs.Modules.{is_plugged_at, module_at, plugged, plugged_before, unplugged, with_module}
+use Rattle.gb_formats.specs.Results.{Step, Stirred}
+use Rattle.gb_machine.specs.Modules.{is_plugged_at, module_at, plugged, plugged_before, unplugged}
+use Rattle.gb_machine.specs.Modules.{with_module}
 use Rattle.gb_machine.specs.State.{Plugged}
 use Rattle.gb_invariants.proofs.Awaiting.{none-some, same-some}
 use Rattle.gb_invariants.proofs.Found.{find-aside, find-changed, find-left, none-of}

@@ -13,20 +13,20 @@ use Rattle.gb_machine.proofs.Opened.{machine_opened}
 use Rattle.gb_machine.specs.Bus.{Ask, Bus, Connection, Item, Request, end_of, request_of}
 use Rattle.gb_machine.specs.Incoming.{Incoming, incoming, reply_item}
 use Rattle.gb_machine.specs.Responding.{Response, destroys, disconnects, far_response, replies}
-use Rattle.gb_machine.specs.Responding.{responds, responds_plainly, responds_with, serves, serves_oneway}
-use Rattle.gb_machine.specs.Responding.{svc_decided, svc_stepped}
+use Rattle.gb_machine.specs.Responding.{responds, responds_plainly, responds_with, serves}
+use Rattle.gb_machine.specs.Responding.{serves_oneway, svc_decided, svc_stepped}
 use Rattle.gb_machine.specs.Serving.{nonexistent, plainly, success}
 use Rattle.gb_machine.specs.SvcTable.{Destroy, svc_read, svc_refuses, svc_stays, svc_step}
 use Rattle.gb_machine.specs.{Actions.◌▸◌, Arriving.is_held, Arriving.takes, Delivery.popped}
 use Rattle.gb_machine.specs.{Delivery.replied, Events.step, Members.IsIn, Modules.far_takes}
-use Rattle.gb_machine.specs.{Refusals.is_end_unplugged, Refusals.refusal, Runs.Moment, Runs.after}
-use Rattle.gb_machine.specs.{Requests.open_on, State.Port, State.State, Wires.with_unwired}
+use Rattle.gb_machine.specs.{Refusals.is_end_unplugged, Refusals.refusal, Requests.open_on}
+use Rattle.gb_machine.specs.{Runs.Moment, Runs.after, State.Port, State.State, Wires.with_unwired}
 use Rattle.gb_machine.specs.{Wiring.joining, Wiring.unwired}
 use Rattle.gb_invariants.proofs.Awaiting.{none-some, not-both, same-some}
 use Rattle.gb_invariants.proofs.{Found.any-in, Outcomes.same-number}
-use Rattle.gb_laws.proofs.{links.LinkFrom.Linked, points.Places.place-is, svc.StillWaiting.IsFront}
-use Rattle.gb_laws.proofs.{svc.SvcKinds.svc-kind, basis.Unheld.IsUnheld}
-use Rattle.gb_laws.proofs.{steps.LoadFailures.loads-fail}
+use Rattle.gb_laws.proofs.{basis.Unheld.IsUnheld, links.LinkFrom.Linked, points.Places.place-is}
+use Rattle.gb_laws.proofs.{steps.LoadFailures.loads-fail, svc.StillWaiting.IsFront}
+use Rattle.gb_laws.proofs.{svc.SvcKinds.svc-kind}
 
 -- ---- the table
 
@@ -85,7 +85,8 @@ destroyed-by x q (Some y) k i1 a i c s on twoway e = by y.wired refl
         (ap (λ (t : State). t.bus) (responded x q (answered true) s twoway)
         ∙ unwired-bus (record s {
           bus = replied x.number side.Ap (reply_item q (plainly success)) s.bus;
-        }) ∙ ap (λ n. unwired y.number (replied n side.Ap (reply_item q (plainly success)) s.bus)) on)
+        })
+        ∙ ap (λ n. unwired y.number (replied n side.Ap (reply_item q (plainly success)) s.bus)) on)
     by false f = uncut (reply_item q (plainly nonexistent))
         (λ one z g. ap (λ (w : Connection). w.wired) (same-some z y (sym g ∙ e)) ∙ f)
         (ap (λ (t : State). t.bus) (responded x q (answered false) s twoway)

@@ -3,8 +3,8 @@ use Rattle.gb_machine.specs.Runs.{Moment}
 use Rattle.gb_machine.specs.Bus.{Connection}
 use Rattle.gb_machine.specs.Sending.{Draft}
 use Rattle.gb_laws.proofs.points.Points.{Change, IsAskedBy, Law, acts_asked, acts_failed, acts_left}
-use Rattle.gb_laws.proofs.points.Points.{acts_opened, by_far, by_host, by_loader}
-use Rattle.gb_laws.proofs.points.Points.{acts_shut, acts_told, asks, changed, tells, turns}
+use Rattle.gb_laws.proofs.points.Points.{acts_opened, acts_shut, acts_told, asks, by_far, by_host}
+use Rattle.gb_laws.proofs.points.Points.{by_loader, changed, tells, turns}
 use Rattle.gb_laws.proofs.points.PointParts.{Point}
 
 -- another than a firmware device asks

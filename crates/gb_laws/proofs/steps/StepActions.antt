@@ -25,8 +25,7 @@ use Rattle.gb_laws.proofs.points.PointParts.{AreSilent, Hand, Wires, is_silent, 
 use Rattle.gb_laws.proofs.points.Points.{IsFarAsking, IsUnloaded, asks, by_far, by_module}
 use Rattle.gb_laws.proofs.points.Points.{loader_in, tells}
 use Rattle.gb_laws.proofs.steps.LoaderStays.{AsksUnloaded}
-use Rattle.gb_laws.proofs.{points.LowTypes.AreLow, steps.ServedOn.HasPeer}
-use Rattle.gb_laws.proofs.{steps.StepActLaws.ActLaw}
+use Rattle.gb_laws.proofs.{points.LowTypes.AreLow, steps.ServedOn.HasPeer, steps.StepActLaws.ActLaw}
 
 -- the far end of a connection stays where a request was made there
 peer-sent : (d : Draft) (label : ℕ) (e : End) (b : Bus) → HasPeer d.connection e b

@@ -32,10 +32,9 @@ use Rattle.gb_laws.proofs.points.Points.{Law, takes, takes_held}
 use Rattle.gb_laws.proofs.steps.Heard.{IsDelivered}
 use Rattle.gb_laws.proofs.steps.StepMessages.{ends-asked, ends-by_label, ends-reply, ends-responds}
 use Rattle.gb_laws.proofs.steps.StepMessages.{ends-told, ends-untold, hand_of}
-use Rattle.gb_laws.proofs.{steps.DeliveredHands.request-popped, points.Places.module-far}
-use Rattle.gb_laws.proofs.{points.Places.place-is}
-use Rattle.gb_laws.proofs.{steps.ServedOn.IsAsBefore, steps.StepActLaws.acting}
-use Rattle.gb_laws.proofs.{steps.StepActions.At}
+use Rattle.gb_laws.proofs.{points.Places.module-far, points.Places.place-is}
+use Rattle.gb_laws.proofs.{steps.DeliveredHands.request-popped, steps.ServedOn.IsAsBefore}
+use Rattle.gb_laws.proofs.{steps.StepActLaws.acting, steps.StepActions.At}
 use Rattle.gb_laws.proofs.{steps.StepActions.goes-nothing, steps.StepSvcServes.Ends}
 use Rattle.gb_laws.proofs.{steps.StepSvcServes.ends-going}
 
@@ -59,7 +58,8 @@ module _ (m : Moment) (law : Law m) where
           absurd (not-both (is_numbered h.item) (a.numbered (still.self.clean ∙ e)) raw)
 
   ends-raw : (c : Connection) (at : Side) (bytes : List ℕ) (s : State) → IsAsBefore m s
-      → IsDelivered m s (hand_of m law c at (Raw bytes)) → ((q : Incoming) → request_in (Raw bytes) s.bus ≡ Some q → IsTaken m s c at q)
+      → IsDelivered m s (hand_of m law c at (Raw bytes))
+      → ((q : Incoming) → request_in (Raw bytes) s.bus ≡ Some q → IsTaken m s c at q)
       → c.clean ≡ false → Ends m law (Some (hand_of m law c at (Raw bytes)))
       (raw_taken at c (Raw bytes) (raw_message bytes)) s
   unfolding machine_opened
@@ -83,7 +83,8 @@ module _ (m : Moment) (law : Law m) where
       by (Ok x) e = message x e (is_request x) refl
 
   ends-arrives : (c : Connection) (at : Side) (item : Item) (s : State) → IsAsBefore m s
-      → IsDelivered m s (hand_of m law c at item) → ((q : Incoming) → request_in item s.bus ≡ Some q → IsTaken m s c at q)
+      → IsDelivered m s (hand_of m law c at item)
+      → ((q : Incoming) → request_in item s.bus ≡ Some q → IsTaken m s c at q)
       → Ends m law (Some (hand_of m law c at item)) (arrives at c item) s
   unfolding machine_opened
   ends-arrives c at (Ask n) s same is taken = λ told now. by (request_of n s.bus) refl told now
@@ -112,7 +113,8 @@ module _ (m : Moment) (law : Law m) where
   quiet-dropped (RawReply label kind result payload) = refl
 
   ends-handles : (c : Connection) (at : Side) (item : Item) {s : State} → IsAsBefore m s
-      → IsDelivered m s (hand_of m law c at item) → ((q : Incoming) → request_in item s.bus ≡ Some q → IsTaken m s c at q)
+      → IsDelivered m s (hand_of m law c at item)
+      → ((q : Incoming) → request_in item s.bus ≡ Some q → IsTaken m s c at q)
       → Ends m law (Some (hand_of m law c at item)) (handles at c item) s
   unfolding machine_opened
   ends-handles c at item {s} same is taken = by (arriving.takes at c s)

@@ -15,9 +15,9 @@ use Rattle.gb_base.specs.declared.outcome.Outcome.TheVariants as outcome
 use Rattle.gb_base.specs.declared.peers.Link.{Link}
 use Rattle.gb_base.specs.declared.refusal.Refusal.TheVariants as why
 use Rattle.gb_formats.specs.{Bridges.BridgeFault, Bridges.bridge_answer, Devices.Stir}
-use Rattle.gb_formats.specs.{Images.image_of}
-use Rattle.gb_formats.specs.{Grammar.default_timeout, Module.Module, ModuleSteps.module_stir}
-use Rattle.gb_formats.specs.{ModuleLoads.loader_at, Results.Stirred, Results.success}
+use Rattle.gb_formats.specs.{Grammar.default_timeout, Images.image_of, Module.Module}
+use Rattle.gb_formats.specs.{ModuleLoads.loader_at, ModuleSteps.module_stir, Results.Stirred}
+use Rattle.gb_formats.specs.{Results.success}
 use Rattle.gb_machine.proofs.{Conditions.AreUnmet, Conditions.free, Opened.machine_opened}
 use Rattle.gb_machine.proofs.{Options.none-of}
 use Rattle.gb_machine.specs.Actions.{by_state, change, given, on_bus, on_host, tell, ◌▸◌}
@@ -39,16 +39,16 @@ use Rattle.gb_machine.specs.{Show.shown, State.State}
 use Rattle.gb_invariants.proofs.{Awaiting.is-open, Awaiting.not-both, Lists.at_first-back}
 use Rattle.gb_invariants.proofs.{Lists.found-in}
 use Rattle.gb_laws.proofs.points.PointParts.{AreSilent, IsGivenUpFor, Untouched}
-use Rattle.gb_laws.proofs.points.Points.{IsBridge, IsPlain, Law, as_before, binds}
-use Rattle.gb_laws.proofs.points.Points.{gives, gives_up as giving_up}
-use Rattle.gb_laws.proofs.points.Points.{injects as injecting, loader_in, names, others, spends}
+use Rattle.gb_laws.proofs.points.Points.{IsBridge, IsPlain, Law, as_before, binds, gives}
+use Rattle.gb_laws.proofs.points.Points.{gives_up as giving_up, injects as injecting, loader_in}
+use Rattle.gb_laws.proofs.points.Points.{names, others, spends}
 use Rattle.gb_laws.proofs.svc.StayPlugged.{module-plugs, open-takes, place-module, same-plugs}
 use Rattle.gb_laws.proofs.steps.LoaderStays.{keeps-module, module-there, same-loaders, stir-keeps}
 use Rattle.gb_laws.proofs.steps.StepActions.{At, goes-far_asks_all, goes-tell_all}
 use Rattle.gb_laws.proofs.steps.StepPlugs.{Rests, rests-nothing, rests-▸}
 use Rattle.gb_laws.proofs.points.LowTypes.{AreLow, bridge-low, stir-low}
-use Rattle.gb_laws.proofs.{points.Naming.made-named}
-use Rattle.gb_laws.proofs.{points.Places.place-marked, steps.StepActLaws.acting}
+use Rattle.gb_laws.proofs.{points.Naming.made-named, points.Places.place-marked}
+use Rattle.gb_laws.proofs.{steps.StepActLaws.acting}
 use Rattle.gb_laws.proofs.steps.StepLoads.{goes-follows}
 
 module _ (m : Moment) (law : Law m) where

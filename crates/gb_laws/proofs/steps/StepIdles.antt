@@ -16,9 +16,8 @@ use Rattle.gb_machine.specs.{Host.link_at, Lists.first, Refusals.refusal, Runs.M
 use Rattle.gb_invariants.proofs.HostChanges.{at_event}
 use Rattle.gb_laws.proofs.steps.StepActions.{Stays, goes-nothing, goes-when, goes-▸}
 use Rattle.gb_laws.proofs.{links.DrainingKept.FirstDrainsAt, points.PointParts.Point}
-use Rattle.gb_laws.proofs.{points.PointParts.Untouched}
-use Rattle.gb_laws.proofs.{points.Points.IsOver, steps.StepActLaws.ActLaw}
-use Rattle.gb_laws.proofs.{steps.StepActs.goes-notice}
+use Rattle.gb_laws.proofs.{points.PointParts.Untouched, points.Points.IsOver}
+use Rattle.gb_laws.proofs.{steps.StepActLaws.ActLaw, steps.StepActs.goes-notice}
 
 none-first : (ns : List ℕ) → is_none (first ns) ≡ true → ns ≡ []
 none-first [] e = refl

@@ -1,14 +1,13 @@
 -- A law of points goes over downloads of firmware devices: one begins, and behind the end of the
 -- request that it waits for it goes on, is done or fails.
-use Rattle.std.proofs.Common.{Bool, List, None, Option, Some, ap, false, inl, refl, subst, sym, true}
-use Rattle.std.proofs.Common.{arith, ℕ, [], ◌++◌, ◌+◌, ◌<◌, ◌∙◌, ◌∷◌, ◌≡◌, cond}
+use Rattle.std.proofs.Common.{Bool, List, None, Option, Some, ap, arith, cond, false, inl, refl}
+use Rattle.std.proofs.Common.{subst, sym, true, ℕ, [], ◌++◌, ◌+◌, ◌<◌, ◌∙◌, ◌∷◌, ◌≡◌}
 use Rattle.std.specs.Prelude.{is_none, option_and_then, ◌==◌}
 use Rattle.gb_base.specs.declared.download.Next.{Next}
 use Rattle.gb_base.specs.declared.download.Next.TheVariants as next
 use Rattle.gb_base.specs.declared.bridge.Reading.TheVariants as reading
 use Rattle.gb_base.specs.declared.end.End.TheVariants as end
 use Rattle.gb_base.specs.declared.end.Side.TheVariants as side
-use Rattle.gb_base.specs.declared.entry.Entry.{Entry}
 use Rattle.gb_base.specs.declared.entry.Entry.TheVariants as entry
 use Rattle.gb_base.specs.declared.event.Event.TheVariants as event
 use Rattle.gb_base.specs.declared.host_event.HostEvent.TheVariants as host_event
@@ -21,15 +20,17 @@ use Rattle.gb_formats.specs.Module.{Module}
 use Rattle.gb_formats.specs.ModuleLoads.{ModuleLoaded, loader_at, module_ended, module_fail}
 use Rattle.gb_formats.specs.ModuleLoads.{module_load, tag_at}
 use Rattle.gb_formats.specs.Results.{success}
-use Rattle.gb_machine.proofs.{Conditions.AreUnmet, Conditions.free, Opened.machine_opened, Options.some-of}
-use Rattle.gb_machine.specs.Actions.{Action, Told, change, each, given, tell, when, ◌▸◌}
+use Rattle.gb_machine.proofs.{Conditions.AreUnmet, Conditions.free, Opened.machine_opened}
+use Rattle.gb_machine.proofs.{Options.some-of}
+use Rattle.gb_machine.specs.Actions.{Action, Told, change, each, given, nothing, tell, when, ◌▸◌}
 use Rattle.gb_machine.specs.Asking.{asked, asks as asking, asks_with}
 use Rattle.gb_machine.specs.Bus.{Connection, Place, connection_of, end_of, next_number}
 use Rattle.gb_machine.specs.HostActs.{follows, host_follows}
 use Rattle.gb_machine.specs.Labels.{next_label}
 use Rattle.gb_machine.specs.Lists.{holds_of}
-use Rattle.gb_machine.specs.Loading.{asks_at, asks_next, goes_on, load_ended, load_follows, load_of}
-use Rattle.gb_machine.specs.Loading.{begins as beginning, loads as loading, with_begun, with_done, with_failed, with_next}
+use Rattle.gb_machine.specs.Loading.{asks_at, asks_next, begins as beginning, goes_on, load_ended}
+use Rattle.gb_machine.specs.Loading.{load_follows, load_of, loads as loading, with_begun, with_done}
+use Rattle.gb_machine.specs.Loading.{with_failed, with_next}
 use Rattle.gb_machine.specs.OwnAsking.{far_asks}
 use Rattle.gb_machine.specs.Refusals.{has_no_label, load_conditions, module_place, refusal}
 use Rattle.gb_machine.specs.Sending.{Draft, draft, is_wired, label_for, sent}
@@ -42,7 +43,7 @@ use Rattle.gb_invariants.proofs.Outcomes.{same-number}
 use Rattle.gb_laws.proofs.links.Draining.{FirstDrains}
 use Rattle.gb_laws.proofs.links.DrainingKept.{FirstDrainsAt, draining-kept}
 use Rattle.gb_laws.proofs.points.Awaited.{awaited-rest}
-use Rattle.gb_laws.proofs.points.PointParts.{Basis, Point, Untouched, Wires, asked_told, sent_told}
+use Rattle.gb_laws.proofs.points.PointParts.{Point, Untouched, Wires, sent_told}
 use Rattle.gb_laws.proofs.points.Places.{module-far, place-is}
 use Rattle.gb_laws.proofs.points.Points.{Change, Going, HearsBack, IsFarAsking, IsGoing, IsHeard}
 use Rattle.gb_laws.proofs.points.Points.{IsOver, Law, acts_asked, acts_failed, acts_left}
@@ -50,8 +51,8 @@ use Rattle.gb_laws.proofs.points.Points.{acts_opened, acts_shut, acts_told, as_b
 use Rattle.gb_laws.proofs.points.Points.{by_far, by_host, by_loader, by_module, changed, continues}
 use Rattle.gb_laws.proofs.points.Points.{finishes, loads_gone, modules_gone, others, tells}
 use Rattle.gb_laws.proofs.points.Points.{trails_gone, turns}
-use Rattle.gb_laws.proofs.steps.LoaderEnds.{IsSuccess, ModuleFollows, asks as follows_asks}
-use Rattle.gb_laws.proofs.steps.LoaderEnds.{done, failed, module-follows}
+use Rattle.gb_laws.proofs.steps.LoaderEnds.{IsSuccess, ModuleFollows, asks as follows_asks, done}
+use Rattle.gb_laws.proofs.steps.LoaderEnds.{failed, module-follows}
 use Rattle.gb_laws.proofs.steps.LoaderStays.{KeepsEach, keeps-module}
 use Rattle.gb_laws.proofs.steps.StepActLaws.{ActLaw, IsActing, acting}
 use Rattle.gb_laws.proofs.steps.StepActions.{At, Stays, goes-nothing, goes-tell, goes-▸}
@@ -99,13 +100,10 @@ module _ (m : Moment) (law : Law m) where
   abbrev Rests : Wires → Action → State → Type 0
   Rests wires f s = Stays m (acting m law) None [] wires f s
 
-  nothing-follows : (wires : Wires) (s : State)
-      → Rests wires (λ t. record { state = t; entries = [] }) s
-  unfolding machine_opened
+  nothing-follows : (wires : Wires) (s : State) → Rests wires nothing s
   nothing-follows wires s = goes-nothing m (acting m law) None [] wires s
 
-  -- ---- a failure
-
+  -- a download fails
   rests-failed : (wires : Wires) (i c : ℕ) (x y : Module) (tag : List ℕ) (s : State)
       → module_at i s.modules ≡ Some x → KeepsEach x y
       → Rests wires (change (with_failed i y) ▸ tell (entry.Download i c tag None)) s
@@ -139,6 +137,7 @@ module _ (m : Moment) (law : Law m) where
     };
   }
 
+  -- it is asked, where an identifier is left
   rests-asked : (wires : Wires) (x : Going) (g : State → State) (own : OwnAsk) (k : ℕ)
       (c : Connection) (label : ℕ) (s : State) → connection_of k s.bus ≡ Some c → c.wired ≡ true
       → next_label k side.Far s.bus ≡ Some label → (own.kind < 128) × (own.oneway ≡ false)

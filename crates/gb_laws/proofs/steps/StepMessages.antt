@@ -15,24 +15,21 @@ use Rattle.gb_machine.specs.Incoming.{Incoming, reply_item, request_in}
 use Rattle.gb_machine.specs.Responding.{Response, replies as replying, response_at}
 use Rattle.gb_machine.specs.Responding.{serves as serving, serves_oneway}
 use Rattle.gb_machine.specs.{Delivery.ended, Delivery.forgotten, HostActs.follows}
-use Rattle.gb_machine.specs.{HostServing.host_serves}
-use Rattle.gb_machine.specs.{Requests.given_up_with, Requests.open_with, Runs.Moment}
-use Rattle.gb_machine.specs.{Serving.success, State.State}
+use Rattle.gb_machine.specs.{HostServing.host_serves, Requests.given_up_with, Requests.open_with}
+use Rattle.gb_machine.specs.{Runs.Moment, Serving.success, State.State}
 use Rattle.gb_machine.specs.Arriving as arriving
 use Rattle.gb_machine.specs.Delivery as delivery
 use Rattle.gb_invariants.proofs.{Awaiting.not-both, Numbers.found-number, Numbers.same-connection}
 use Rattle.gb_laws.proofs.steps.DeliveredHands.{answers-open, over-ended, peer-replied}
 use Rattle.gb_laws.proofs.points.PointParts.{Basis, Hand, Untouched, is_silent}
 use Rattle.gb_laws.proofs.points.Points.{Answers, Forgets, Law, Says, answers, by_label, by_number}
-use Rattle.gb_laws.proofs.points.Points.{drops}
-use Rattle.gb_laws.proofs.points.Points.{forgets, holds, numbered, replied_to, replies, tells}
-use Rattle.gb_laws.proofs.points.Points.{unclean}
-use Rattle.gb_laws.proofs.points.Points.{unreplied}
+use Rattle.gb_laws.proofs.points.Points.{drops, forgets, holds, numbered, replied_to, replies}
+use Rattle.gb_laws.proofs.points.Points.{tells, unclean, unreplied}
 use Rattle.gb_laws.proofs.steps.StepActions.{At, Goes, goes-nothing, goes-tell}
 use Rattle.gb_laws.proofs.{steps.Delivered.IsTaken, steps.ServedOn.HasPeer}
-use Rattle.gb_laws.proofs.{steps.ServedOn.IsAsBefore}
-use Rattle.gb_laws.proofs.{steps.StepActLaws.acting, steps.StepServes.ends-response}
-use Rattle.gb_laws.proofs.{steps.StepSvcServes.Ends, steps.StepSvcServes.ends-going}
+use Rattle.gb_laws.proofs.{steps.ServedOn.IsAsBefore, steps.StepActLaws.acting}
+use Rattle.gb_laws.proofs.{steps.StepServes.ends-response, steps.StepSvcServes.Ends}
+use Rattle.gb_laws.proofs.{steps.StepSvcServes.ends-going}
 use Rattle.gb_laws.proofs.steps.Heard.{IsDelivered, heard}
 use Rattle.gb_laws.proofs.steps.StepLoads.{goes-follows}
 

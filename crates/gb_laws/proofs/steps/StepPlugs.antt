@@ -6,16 +6,16 @@ use Rattle.gb_formats.specs.SvcRecords.{SvcAsk}
 use Rattle.gb_formats.specs.Module.{Module}
 use Rattle.gb_machine.proofs.Opened.{machine_opened}
 use Rattle.gb_machine.specs.Actions.{Action, change, each, nothing, when, ◌▸◌}
-use Rattle.gb_machine.specs.Plugging.{boots, parts_from, parts_of, plugs, tells_inserted, with_plugged}
-use Rattle.gb_machine.specs.{OwnAsking.svc_asks, OwnAsking.svc_own}
-use Rattle.gb_machine.specs.{Members.Each, Modules.is_primary}
-use Rattle.gb_machine.specs.{Runs.Moment, State.Plugged, State.State}
+use Rattle.gb_machine.specs.Plugging.{boots, parts_from, parts_of, plugs, tells_inserted}
+use Rattle.gb_machine.specs.Plugging.{with_plugged}
+use Rattle.gb_machine.specs.{Members.Each, Modules.is_primary, OwnAsking.svc_asks}
+use Rattle.gb_machine.specs.{OwnAsking.svc_own, Runs.Moment, State.Plugged, State.State}
 use Rattle.gb_laws.proofs.points.LowTypes.{svc-low}
 use Rattle.gb_laws.proofs.points.Points.{IsOfSvc, Law, by_svc, others}
 use Rattle.gb_laws.proofs.steps.LoaderStays.{AreFirst, keeps-plugged, same-loaders}
 use Rattle.gb_laws.proofs.steps.StepActions.{Goes, goes-far_asks, goes-nothing, goes-when, goes-▸}
-use Rattle.gb_laws.proofs.{points.PointParts.Untouched, svc.StayPlugged.powered-off}
-use Rattle.gb_laws.proofs.{steps.StepActLaws.acting}
+use Rattle.gb_laws.proofs.{points.PointParts.Untouched, steps.StepActLaws.acting}
+use Rattle.gb_laws.proofs.{svc.StayPlugged.powered-off}
 
 -- ---- the shape of steps that leave wires alone
 

@@ -18,8 +18,8 @@ use Rattle.gb_machine.specs.SvcTable.{Answered, Create, Destroy, SvcServed, Unro
 use Rattle.gb_machine.specs.{Bus.Bus, Bus.Connection, Host.Host, HostActs.notices}
 use Rattle.gb_machine.specs.{HostServing.HostServed, HostServing.host_serves, Incoming.Incoming}
 use Rattle.gb_machine.specs.{Lists.first, Modules.module_at, Modules.with_module}
-use Rattle.gb_machine.specs.{OwnAsking.far_asks_all, Ports.is_powered, Ports.unrouted}
-use Rattle.gb_machine.specs.{Runs.Moment, State.State}
+use Rattle.gb_machine.specs.{OwnAsking.far_asks_all, Ports.is_powered, Ports.unrouted, Runs.Moment}
+use Rattle.gb_machine.specs.{State.State}
 use Rattle.gb_invariants.proofs.Awaiting.{none-some, same-some}
 use Rattle.gb_laws.proofs.steps.Delivered.{IsTaken, noticed, served-at, serving-of}
 use Rattle.gb_laws.proofs.points.Places.{ComesFrom, LivesOn, comes-after, lives-after}
@@ -27,18 +27,18 @@ use Rattle.gb_laws.proofs.points.LowTypes.{AreLow, module-low}
 use Rattle.gb_laws.proofs.points.PointParts.{IsNoticed, IsServed, Untouched}
 use Rattle.gb_laws.proofs.steps.LoaderStays.{AsksUnloaded, KeepsEach, keeps-module, module-there}
 use Rattle.gb_laws.proofs.steps.LoaderStays.{serve-asks, serve-keeps}
-use Rattle.gb_laws.proofs.points.Points.{IsAfterReply, IsServing, Law, as_before}
-use Rattle.gb_laws.proofs.points.Points.{loses_route, others, replied_to, served, serves, unreplied}
+use Rattle.gb_laws.proofs.points.Points.{IsAfterReply, IsServing, Law, as_before, loses_route}
+use Rattle.gb_laws.proofs.points.Points.{others, replied_to, served, serves, unreplied}
 use Rattle.gb_laws.proofs.svc.Powering.{IsReady, step-powered, step-ready}
 use Rattle.gb_laws.proofs.steps.Served.{IsQuietly, ServedAs, inserting, plainly, removing}
 use Rattle.gb_laws.proofs.steps.Served.{served as served_as}
 use Rattle.gb_laws.proofs.steps.ServedOn.{Comes, HasPeer, IsAsBefore}
-use Rattle.gb_laws.proofs.steps.StepActions.{At, Goes, goes-far_asks_all, goes-nothing}
-use Rattle.gb_laws.proofs.steps.StepActions.{goes-tell, goes-▸}
+use Rattle.gb_laws.proofs.steps.StepActions.{At, Goes, goes-far_asks_all, goes-nothing, goes-tell}
+use Rattle.gb_laws.proofs.steps.StepActions.{goes-▸}
 use Rattle.gb_laws.proofs.steps.StepSvcServes.{Ends, ends-decided, ends-going, ends-nothing}
-use Rattle.gb_laws.proofs.{svc.StayPlugged.module-plugs}
 use Rattle.gb_laws.proofs.{steps.StepActLaws.acting, steps.StepActs.Acts}
 use Rattle.gb_laws.proofs.{steps.StepModules.goes-inserted, steps.StepModules.goes-removed}
+use Rattle.gb_laws.proofs.{svc.StayPlugged.module-plugs}
 
 module _ (m : Moment) (law : Law m) where
   -- ---- modules

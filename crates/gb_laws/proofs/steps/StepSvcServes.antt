@@ -13,8 +13,8 @@ use Rattle.gb_machine.specs.Serving.{invalid, nonexistent, plainly as plainly_an
 use Rattle.gb_machine.specs.SvcTable.{Answered, Create, Destroy, SvcServed, Unroute}
 use Rattle.gb_machine.specs.Wiring.{is_at, is_wired_to, joining}
 use Rattle.gb_machine.specs.{Actions.Action, Actions.each, Actions.nothing, Bus.Connection}
-use Rattle.gb_machine.specs.{Loading.load_follows, Ports.is_powered, Requests.open_on}
-use Rattle.gb_machine.specs.{Ports.unrouted, Runs.Moment, State.Port, State.State}
+use Rattle.gb_machine.specs.{Loading.load_follows, Ports.is_powered, Ports.unrouted}
+use Rattle.gb_machine.specs.{Requests.open_on, Runs.Moment, State.Port, State.State}
 use Rattle.gb_machine.specs.Wires as wiring
 use Rattle.gb_invariants.proofs.Found.{none-any}
 use Rattle.gb_laws.proofs.points.PointParts.{Hand, Untouched, Unwired, Wired, Wires}
@@ -23,8 +23,8 @@ use Rattle.gb_laws.proofs.svc.Powering.{IsReady, IsRouted, port-powered}
 use Rattle.gb_laws.proofs.steps.LoaderStays.{same-loaders}
 use Rattle.gb_laws.proofs.steps.StepActions.{At, Goes, goes-nothing}
 use Rattle.gb_laws.proofs.{points.Places.ComesFrom, points.Places.LivesOn, steps.ServedOn.Comes}
-use Rattle.gb_laws.proofs.{steps.ServedOn.joining-live}
-use Rattle.gb_laws.proofs.{steps.StepActLaws.acting, steps.StepLoads.rests-loads_fail}
+use Rattle.gb_laws.proofs.{steps.ServedOn.joining-live, steps.StepActLaws.acting}
+use Rattle.gb_laws.proofs.{steps.StepLoads.rests-loads_fail}
 
 module _ (m : Moment) (law : Law m) where
   -- an action ends a step, whatever becomes of wires

@@ -1,6 +1,6 @@
 -- A law of points goes over the step of each event.
-use Rattle.std.proofs.Common.{List, None, Option, Some, append_assoc, arith, map, refl, subst, sym, []}
-use Rattle.std.proofs.Common.{◌++◌, ◌∷◌, ◌≡◌}
+use Rattle.std.proofs.Common.{List, None, Option, Some, append_assoc, arith, map, refl, subst, sym}
+use Rattle.std.proofs.Common.{[], ◌++◌, ◌∷◌, ◌≡◌}
 use Rattle.gb_base.specs.declared.entry.Entry.TheVariants as entry
 use Rattle.gb_base.specs.declared.event.Event.{Event}
 use Rattle.gb_base.specs.declared.event.Event.TheVariants as event
@@ -16,17 +16,16 @@ use Rattle.gb_invariants.proofs.HostChanges.{at_event}
 use Rattle.gb_laws.proofs.points.PointParts.{Untouched, Wires, resting}
 use Rattle.gb_laws.proofs.points.Points.{IsBridge, IsOfSvc, Law, frees, tells}
 use Rattle.gb_laws.proofs.steps.LoaderStays.{AreFirst, first-kind, first-raw}
-use Rattle.gb_laws.proofs.steps.StepEvents.{rests-bridges, rests-cancels, rests-copies, rests-holds}
-use Rattle.gb_laws.proofs.steps.StepEvents.{rests-gives, rests-injects, rests-sends, rests-shows, rests-stirs}
-use Rattle.gb_laws.proofs.{steps.StepActLaws.acting}
-use Rattle.gb_laws.proofs.{steps.StepActions.At, steps.StepActs.goes-notice}
-use Rattle.gb_laws.proofs.{steps.StepDelivers.ends-answers}
-use Rattle.gb_laws.proofs.{steps.StepDelivers.ends-delivers, steps.StepPlugs.rests-boots}
-use Rattle.gb_laws.proofs.{steps.StepPlugs.rests-plugs}
-use Rattle.gb_laws.proofs.{steps.StepSvcServes.Ends, steps.StepSvcServes.ends-going}
-use Rattle.gb_laws.proofs.{steps.Ticking.ends-pulls}
+use Rattle.gb_laws.proofs.steps.StepEvents.{rests-bridges, rests-cancels, rests-copies, rests-gives}
+use Rattle.gb_laws.proofs.steps.StepEvents.{rests-holds, rests-injects, rests-sends, rests-shows}
+use Rattle.gb_laws.proofs.steps.StepEvents.{rests-stirs}
+use Rattle.gb_laws.proofs.{steps.StepActLaws.acting, steps.StepActions.At}
+use Rattle.gb_laws.proofs.{steps.StepActs.goes-notice, steps.StepDelivers.ends-answers}
+use Rattle.gb_laws.proofs.{steps.StepDelivers.ends-delivers, steps.StepIdles.goes-drains}
+use Rattle.gb_laws.proofs.{steps.StepLoads.rests-loads, steps.StepPlugs.rests-boots}
+use Rattle.gb_laws.proofs.{steps.StepPlugs.rests-plugs, steps.StepSvcServes.Ends}
+use Rattle.gb_laws.proofs.{steps.StepSvcServes.ends-going, steps.Ticking.ends-pulls}
 use Rattle.gb_laws.proofs.{steps.Ticking.rests-ticks}
-use Rattle.gb_laws.proofs.{steps.StepIdles.goes-drains, steps.StepLoads.rests-loads}
 
 -- the loaders of modules of kinds are in their first state
 kinds-first : (kinds : List Kind) → Each AreFirst (map module_of_kind kinds)

@@ -25,9 +25,8 @@ use Rattle.gb_machine.specs.Plugging.{pulls, pulls_module, pulls_one, recalled, 
 use Rattle.gb_machine.specs.Plugging.{wired_numbers, with_pulled, with_told}
 use Rattle.gb_machine.specs.Ports.{is_port, level_in, level_of, unpowered}
 use Rattle.gb_machine.specs.Wiring.{is_at, is_wired_to, unwired}
-use Rattle.gb_machine.specs.{OwnAsking.svc_asks, OwnAsking.svc_own}
-use Rattle.gb_machine.specs.{Requests.is_due, Requests.open_on, Runs.Moment, State.Port}
-use Rattle.gb_machine.specs.{State.State}
+use Rattle.gb_machine.specs.{OwnAsking.svc_asks, OwnAsking.svc_own, Requests.is_due}
+use Rattle.gb_machine.specs.{Requests.open_on, Runs.Moment, State.Port, State.State}
 use Rattle.gb_machine.specs.Wires as wiring
 use Rattle.gb_machine.specs.State.{Plugged}
 use Rattle.gb_machine.specs.Modules.{interfaces_of, part_at}
