@@ -16,3 +16,4 @@ pub mod RunningNew
 pub mod HeardBack
 pub mod RunningKept
 pub mod RunningGoes
+pub mod KeptImages

@@ -43,7 +43,7 @@ abbrev pub Apart : ℕ → ℕ → ℕ → ℕ → Type 0
 Apart i c j d = i ≡ j → c ≡ d → ⊥
 
 -- a trail of one CPort is none of another
-trail-apart : (i c j d : ℕ) (t : Trail) → Apart i c j d → is_trail_at i c t ≡ true
+pub trail-apart : (i c j d : ℕ) (t : Trail) → Apart i c j d → is_trail_at i c t ≡ true
     → is_trail_at j d t ≡ false
 trail-apart i c j d t other e = by (is_trail_at j d t) refl
   where
