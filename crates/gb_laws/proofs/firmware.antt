@@ -17,3 +17,5 @@ pub mod HeardBack
 pub mod RunningKept
 pub mod RunningGoes
 pub mod KeptImages
+pub mod RunningRests
+pub mod KeptRuns

@@ -133,7 +133,7 @@ module _ (m : Moment) (a : Point) (basis : Basis a) (on : Onward m a) (runs : Ru
       (λ n at brings. let s = same-module l.intf l.cport i p
       (sym (run.far c c_live.0 (c_live.1 ∙ at)) ∙ peer) in apart s.0 s.1) same
 
-begins-kept : (m : Moment) (a : Point) → IsMoment m.event → Linked m.before.bus m.before.host []
+pub begins-kept : (m : Moment) (a : Point) → IsMoment m.event → Linked m.before.bus m.before.host []
     → (before : List Loose) → BusFits before m.before.bus → Basis a → Onward m a → RunIn m a
     → (d : Draft) (c : Connection) (label : ℕ) (free : a.hand ≡ None)
     (live : connection_of d.connection a.state.bus ≡ Some c)
@@ -214,7 +214,7 @@ begins-kept m a one links before was basis on runs d c label free live drawn i p
 module _ (m : Moment) (a : Point) (rested : RunAt m.before) (remembered : AreRemembered m.before)
     (apart : EachTwo AreApart m.before.bus.connections) (before : List Loose)
     (was : BusFits before m.before.bus) (basis : Basis a) (on : Onward m a) (runs : RunIn m a) where
-  continues-kept : (d : Draft) (c : Connection) (label : ℕ) (free : a.hand ≡ None)
+  pub continues-kept : (d : Draft) (c : Connection) (label : ℕ) (free : a.hand ≡ None)
       (live : connection_of d.connection a.state.bus ≡ Some c)
       (drawn : label_for d a.state.bus ≡ Some label) (i p : ℕ) (x : Module)
       (going : IsGoing m a.state c d (continues i p x)) (far : IsFarAsking m c d)
@@ -334,7 +334,7 @@ module _ (m : Moment) (a : Point) (rested : RunAt m.before) (remembered : AreRem
           (sym changes.is ∙ subst (λ (k : Load). loader_in k.intf k.cport
           (with_module i x a.state.modules) ≡ Some r) s at)) ∙ ran)) fresh)
 
-  finishes-kept : (i p : ℕ) (x : Module) (tag : List ℕ) (size : ℕ) (idle : IsIdle a)
+  pub finishes-kept : (i p : ℕ) (x : Module) (tag : List ℕ) (size : ℕ) (idle : IsIdle a)
       (hears : HearsBack m a.state i p x (next.Done tag size))
       → RunIn m (changed m a (finishes i p x tag size idle hears))
   finishes-kept i p x tag size idle hears l j r at e ran =

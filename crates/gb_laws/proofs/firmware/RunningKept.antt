@@ -103,7 +103,7 @@ none-comes m a (replies h q y is made twoway) plain l d r at run n on brings =
 none-comes m a (injects i c p bytes free named) plain l d r at run n on brings = absurd cc
 none-comes m a _ plain l d r at run n on brings = absurd brings
 
-aside-kept : (m : Moment) (a : Point) (x : Change m a) → IsAside m a x → Basis a → Onward m a
+pub aside-kept : (m : Moment) (a : Point) (x : Change m a) → IsAside m a x → Basis a → Onward m a
     → RunIn m a → RunIn m (changed m a x)
 aside-kept m a x plain basis on runs l i r at d ran =
     run-moved m a x l d basis on run
@@ -138,7 +138,7 @@ unrunning : (r s : Loader) (d : Download) → r ≡ s → s.running ≡ None →
 unrunning r s d e none ran =
     none-some (sym none ∙ ap (λ (l : Loader). l.running) (sym e) ∙ ran)
 
-others-kept : (m : Moment) (a : Point) (booted : Bool) (marks : List ℕ) (ports : List Port)
+pub others-kept : (m : Moment) (a : Point) (booted : Bool) (marks : List ℕ) (ports : List Port)
     (modules : List Plugged) (same : IsElse m a booted marks ports modules
     × KeepLoaders a.state.modules modules) → Basis a → Onward m a → RunIn m a
     → RunIn m (changed m a (others booted marks ports modules same))
@@ -158,7 +158,7 @@ others-kept m a booted marks ports modules same basis on runs l i r at d ran =
     by (Some s) e (inr (inr (inr failed))) = absurd (unrunning r (loader_failed s) d
         (sym (same-some (loader_failed s) r (sym failed ∙ at))) refl ran)
 
-unloads-kept : (m : Moment) (a : Point) (i : ℕ) (of : IsOfSvc m.event)
+pub unloads-kept : (m : Moment) (a : Point) (i : ℕ) (of : IsOfSvc m.event)
     (gone : module_at i a.state.modules ≡ None) → Basis a → Onward m a → RunIn m a
     → RunIn m (changed m a (unloads i of gone))
 unloads-kept m a i of gone basis on runs l j r at d ran =
