@@ -1,6 +1,6 @@
 -- A FETCH that is answered with success has its bytes of the image.
 use Rattle.std.proofs.Common.{Bool, List, None, Option, Some, ap, cond, false, inl, inr, length}
-use Rattle.std.proofs.Common.{refl, subst, sym, true, ℕ, ⊎_elim, [], ◌++◌, ◌+◌, ◌∙◌, ◌∷◌, ◌≡◌, ◌⊎◌}
+use Rattle.std.proofs.Common.{refl, subst, sym, true, ℕ, [], ◌+◌, ◌∙◌, ◌∷◌, ◌≡◌}
 use Rattle.std.specs.Prelude.{Err, Ok, Result, drop, min, option_map, ◌==◌}
 use Rattle.byteorder.specs.Endian.{little_number}
 use Rattle.gb_base.specs.declared.end.End.{End}
@@ -12,45 +12,43 @@ use Rattle.gb_base.specs.declared.entry.Entry.TheVariants as entry
 use Rattle.gb_base.specs.declared.event.Event.TheVariants as event
 use Rattle.gb_base.specs.declared.fault.RawFault.{RawFault}
 use Rattle.gb_base.specs.declared.host_event.HostEvent.{HostEvent}
-use Rattle.gb_base.specs.declared.peers.Link.{Link}
 use Rattle.gb_base.specs.declared.refusal.Refusal.{Refusal}
 use Rattle.gb_formats.specs.FirmwareRecords.{FirmwareAsk, read_firmware_ask}
-use Rattle.gb_formats.specs.Images.{Images, images_read, images_step, lent_bytes, lent_tag}
+use Rattle.gb_formats.specs.Images.{Images, images_read, lent_bytes}
 use Rattle.gb_formats.specs.Message.{Message, response, spelling}
 use Rattle.gb_formats.specs.Records.{PayloadFault}
 use Rattle.gb_formats.specs.Wire.{raw_message}
 use Rattle.gb_machine.proofs.Opened.{machine_opened}
-use Rattle.gb_machine.proofs.Steps.{delivers-handles, step-deliver}
+use Rattle.gb_machine.proofs.Steps.{delivers-handles}
 use Rattle.gb_machine.specs.Actions.{Told, given, on_host, tell, ◌▸◌}
 use Rattle.gb_machine.specs.Arriving.{arrives, asked_at, by_label, dropped, handles, raw_taken}
 use Rattle.gb_machine.specs.Arriving.{takes}
 use Rattle.gb_machine.specs.Bus.{Ask, Connection, Item, Place, Raw, RawReply, Reply, Request}
 use Rattle.gb_machine.specs.Bus.{end_of, place_of, queue, request_of}
 use Rattle.gb_machine.specs.Delivery.{popped}
-use Rattle.gb_machine.specs.Events.{decided, step}
-use Rattle.gb_machine.specs.Host.{Host, link_of}
+use Rattle.gb_machine.specs.Events.{decided}
 use Rattle.gb_machine.specs.HostActs.{notices}
 use Rattle.gb_machine.specs.HostServing.{HostServed, host_serves}
 use Rattle.gb_machine.specs.Incoming.{Incoming, incoming, incoming_raw, is_request, raw_request}
 use Rattle.gb_machine.specs.Incoming.{reply_entry, request_in}
-use Rattle.gb_machine.specs.LawsFirmware.{AnswersWithTheBytes, Brings, FetchedIsTheImage}
-use Rattle.gb_machine.specs.LawsFirmware.{HasTheBytes}
+use Rattle.gb_machine.specs.LawsFirmware.{AnswersWithTheBytes, FetchedIsTheImage, HasTheBytes}
 use Rattle.gb_machine.specs.Lists.{first}
 use Rattle.gb_machine.specs.Members.{IsIn}
 use Rattle.gb_machine.specs.Refusals.{refusal}
 use Rattle.gb_machine.specs.Responding.{host_served, replies, responds, serves_oneway}
-use Rattle.gb_machine.specs.Runs.{IsMoment, Moment, told_at}
+use Rattle.gb_machine.specs.Runs.{Moment, told_at}
 use Rattle.gb_machine.specs.Serving.{success}
 use Rattle.gb_machine.specs.State.{State}
 use Rattle.gb_invariants.proofs.Awaiting.{none-some, same-some}
-use Rattle.gb_invariants.proofs.Lists.{in-append, not-both}
-use Rattle.gb_laws.proofs.firmware.ServedImages.{FetchedFrom, fault-fails, fetched-from}
-use Rattle.gb_laws.proofs.firmware.ServedImages.{firmware-serves, served_images}
-use Rattle.gb_laws.proofs.{links.LinkFrom.Linked, links.LinkRuns.LinkedTo}
-use Rattle.gb_laws.proofs.{links.LinkRuns.linked-throughout, points.Places.IsPlace}
-use Rattle.gb_laws.proofs.{points.Places.place-is}
-use Rattle.gb_laws.proofs.{runs.AllRuns.at-all, runs.Runs.HoldsAtMoments, runs.Runs.at_each}
-use Rattle.gb_laws.proofs.{runs.SettleQueues.IsFarEnd, together.Absent.far-end}
+use Rattle.gb_invariants.proofs.Lists.{not-both}
+use Rattle.gb_laws.proofs.firmware.ServedImages.{fault-fails, fetched-from, firmware-serves}
+use Rattle.gb_laws.proofs.firmware.ServedImages.{served_images}
+use Rattle.gb_laws.proofs.links.LinkRuns.{LinkedTo, linked-throughout}
+use Rattle.gb_laws.proofs.points.Places.{IsPlace, place-is}
+use Rattle.gb_laws.proofs.runs.AllRuns.{at-all}
+use Rattle.gb_laws.proofs.runs.Runs.{HoldsAtMoments, at_each}
+use Rattle.gb_laws.proofs.runs.SettleQueues.{IsFarEnd}
+use Rattle.gb_laws.proofs.together.Absent.{far-end}
 
 -- ---- what is told where a request is served
 
@@ -168,7 +166,8 @@ handles-tells : (c : Connection) (item : Item) (q : Incoming) (s : State)
 unfolding machine_opened
 handles-tells c item q s made plain = by (takes side.Ap c s)
   where
-    by : (t : Bool) → TellsOf c q s (cond t (arrives side.Ap c item) (tell (dropped item)) s).entries
+    by : (t : Bool) → TellsOf c q s
+        (cond t (arrives side.Ap c item) (tell (dropped item)) s).entries
     by true = arrives-tells c item q s made plain
     by false = tells-other (reply_entry side.Ap c q (served_at c q s).answer) (dropped item)
         (dropped-plain item)

@@ -1,14 +1,14 @@
 -- What stays over a moment: requests, what was injected, and what is in hand at the application
 -- processor.
-use Rattle.std.proofs.Common.{Bool, List, None, Option, Some, ap, cond, false, inl, inr}
-use Rattle.std.proofs.Common.{length, refl, subst, sym, true, ℕ, ⊎_elim, [], ◌++◌, ◌∙◌, ◌∷◌, ◌≡◌}
-use Rattle.std.proofs.Common.{◌≢◌, ◌≤◌, ◌⊎◌}
-use Rattle.gb_base.specs.declared.end.{End.End, Side.Side}
+use Rattle.std.proofs.Common.{Bool, List, None, Option, Some, ap, cond, false, inl, inr, length}
+use Rattle.std.proofs.Common.{refl, subst, sym, true, ℕ, ⊎_elim, [], ◌∙◌, ◌∷◌, ◌≡◌, ◌≢◌, ◌≤◌, ◌⊎◌}
+use Rattle.gb_base.specs.declared.end.End.{End}
 use Rattle.gb_base.specs.declared.end.End.TheVariants as end
+use Rattle.gb_base.specs.declared.end.Side.{Side}
 use Rattle.gb_base.specs.declared.end.Side.TheVariants as side
 use Rattle.gb_base.specs.declared.event.Event.TheVariants as event
-use Rattle.gb_base.specs.declared.steps.Purpose.{Purpose}
 use Rattle.gb_base.specs.declared.peers.Link.{Link}
+use Rattle.gb_base.specs.declared.steps.Purpose.{Purpose}
 use Rattle.gb_formats.specs.Images.{Image, Images}
 use Rattle.gb_machine.specs.Bus.{Bus, Connection, Place, place_of, queue}
 use Rattle.gb_machine.specs.Host.{link_at}
@@ -17,11 +17,11 @@ use Rattle.gb_machine.specs.Lists.{first}
 use Rattle.gb_machine.specs.Members.{IsIn}
 use Rattle.gb_machine.specs.Runs.{IsMoment, Moment}
 use Rattle.gb_machine.specs.SequenceSteps.{is_for_connection}
-use Rattle.gb_machine.specs.State.{Load, Plugged, State, Trail}
+use Rattle.gb_machine.specs.State.{State}
 use Rattle.gb_machine.specs.Waits.{awaits}
 use Rattle.gb_invariants.proofs.Awaiting.{none-some, same-some}
-use Rattle.gb_invariants.proofs.BusChanges.{BusChange, KeepsRequests, Was, bus_after, came, clean_by}
-use Rattle.gb_invariants.proofs.BusChanges.{made_by, number_of, stayed, was, went}
+use Rattle.gb_invariants.proofs.BusChanges.{BusChange, KeepsRequests, Was, came, clean_by, made_by}
+use Rattle.gb_invariants.proofs.BusChanges.{number_of, stayed, was, went}
 use Rattle.gb_invariants.proofs.Lists.{in-behind, in-front, in-pushed, not-both}
 use Rattle.gb_invariants.proofs.Wires.{WasWired}
 use Rattle.gb_laws.proofs.firmware.HostImages.{ImagesFrom, added, fewer, images-from, stepped}
@@ -30,10 +30,20 @@ use Rattle.gb_laws.proofs.points.ChangeBuses.{bus_change, by-bus, keeps-requests
 use Rattle.gb_laws.proofs.points.Onward.{onward}
 use Rattle.gb_laws.proofs.points.Places.{module-far, place-is}
 use Rattle.gb_laws.proofs.points.PointParts.{Hand, Point, Wired}
-use Rattle.gb_laws.proofs.points.Points.{Change, acts_asked, answers, changed, drops, forgets, holds}
-use Rattle.gb_laws.proofs.points.Points.{injects, replies, takes, takes_held, unwires, wires}
+use Rattle.gb_laws.proofs.points.Points.{Change, acts_asked, answers, changed, drops, forgets}
+use Rattle.gb_laws.proofs.points.Points.{holds, injects, replies, takes, takes_held, unwires, wires}
 
 -- ---- what is in hand
+
+-- what is delivered at a moment is at one place
+pub one-place : (m : Moment) (x y : End) (p q : Place) → m.event ≡ event.Deliver x
+    → m.event ≡ event.Deliver y → place_of x m.before.bus.connections ≡ Some p
+    → place_of y m.before.bus.connections ≡ Some q → p ≡ q
+one-place m x y p q e f at there = same-some p q (sym at
+    ∙ ap (λ z. place_of z m.before.bus.connections) (same x y (sym e ∙ f)) ∙ there)
+  where
+    same : (a b : End) → event.Deliver a ≡ event.Deliver b → a ≡ b
+    same a b e = cc
 
 -- An item in hand is the front one at the place of this moment.
 pub record TakenAt (m : Moment) (h : Hand) : Type 0 where
@@ -78,43 +88,43 @@ taken-kept m a x t h e ap_side = t h e ap_side
 
 -- ---- what was injected
 
--- what a sequence waits for is no matter of downloads
-pub record SameLoads (s t : State) : Type 0 where
+-- firmware devices and what is known of their requests stay
+pub record SameDownloads (s t : State) : Type 0 where
   pub modules : t.modules ≡ s.modules
   pub loads : t.loads ≡ s.loads
   pub loading : t.past.loading ≡ s.past.loading
   pub loaded : t.past.loaded ≡ s.past.loaded
-  pub unclean : t.past.unclean ≡ s.past.unclean
 
-pub awaited-loads : (p : Purpose) (n : ℕ) (s : State) → SameLoads s (with_awaited p n s)
-awaited-loads p n s = by (is_for_connection p.step) (link_at p.intf p.cport (awaits p n s.host))
+-- what a sequence waits for is no matter of theirs, nor of what was injected
+pub awaited-downloads : (p : Purpose) (n : ℕ) (s : State) → SameDownloads s (with_awaited p n s)
+    × ((with_awaited p n s).past.unclean ≡ s.past.unclean)
+awaited-downloads p n s = by (is_for_connection p.step) (link_at p.intf p.cport (awaits p n s.host))
   where
-    same : (t : State) → t.modules ≡ s.modules → t.loads ≡ s.loads
-        → t.past.loading ≡ s.past.loading → t.past.loaded ≡ s.past.loaded
-        → t.past.unclean ≡ s.past.unclean → SameLoads s t
-    same t a b c d e = record { modules = a; loads = b; loading = c; loaded = d; unclean = e }
+    waits : State
+    waits = record s { host = awaits p n s.host }
 
-    made : (o : Option Link) → SameLoads s (made_for n o (record s { host = awaits p n s.host }))
-    made None = same _ refl refl refl refl refl
-    made (Some l) = same _ refl refl refl refl refl
+    Same : State → Type 0
+    Same t = SameDownloads s t × (t.past.unclean ≡ s.past.unclean)
 
-    by : (t : Bool) (o : Option Link)
-        → SameLoads s (cond t (made_for n o (record s { host = awaits p n s.host }))
-        (record s { host = awaits p n s.host }))
+    made : (o : Option Link) → Same (made_for n o waits)
+    made None = (record { modules = refl; loads = refl; loading = refl; loaded = refl }, refl)
+    made (Some l) = (record { modules = refl; loads = refl; loading = refl; loaded = refl }, refl)
+
+    by : (t : Bool) (o : Option Link) → Same (cond t (made_for n o waits) waits)
     by true o = made o
-    by false o = same _ refl refl refl refl refl
+    by false o = (record { modules = refl; loads = refl; loading = refl; loaded = refl }, refl)
 
 pub unclean-kept : (m : Moment) (a : Point) (x : Change m a) (n : ℕ) → IsIn n a.state.past.unclean
     → IsIn n (changed m a x).state.past.unclean
 unclean-kept m a (injects i c p bytes free named) n j =
     in-front n a.state.past.unclean (p.connection.number ∷ []) j
 unclean-kept m a (acts_asked q k rest is) n j =
-    subst (λ ks. IsIn n ks) (sym (awaited-loads q.purpose k a.state).unclean) j
+    subst (λ ks. IsIn n ks) (sym (awaited-downloads q.purpose k a.state).1) j
 unclean-kept m a _ n j = j
 
 -- Where bytes were injected it is remembered.
-abbrev pub AreRemembered : State → Type 0
-AreRemembered s = (c : Connection) → IsIn c s.bus.connections → c.clean ≡ false
+abbrev pub UncleanAreKnown : State → Type 0
+UncleanAreKnown s = (c : Connection) → IsIn c s.bus.connections → c.clean ≡ false
     → IsIn c.number s.past.unclean
 
 -- the number of the connection that a change makes unclean
@@ -140,8 +150,8 @@ dirty-new m a (injects i c p bytes free named) n e =
     (inl (sym (same-some p.connection.number n e)))
 dirty-new m a _ n e = absurd (none-some e)
 
-remembered-kept : (m : Moment) (a : Point) (x : Change m a) → AreRemembered a.state
-    → AreRemembered (changed m a x).state
+remembered-kept : (m : Moment) (a : Point) (x : Change m a) → UncleanAreKnown a.state
+    → UncleanAreKnown (changed m a x).state
 remembered-kept m a x h =
     by-bus (λ b. (c : Connection) → IsIn c b.connections → c.clean ≡ false
     → IsIn c.number (changed m a x).state.past.unclean) x
@@ -190,7 +200,7 @@ pub record Onward (m : Moment) (a : Point) : Type 0 where
   pub unclean : (n : ℕ) → IsIn n m.before.past.unclean → IsIn n a.state.past.unclean
   pub wired : a.wires ≢ Wired → WasWired m.before.bus a.state.bus
   pub svc : a.wires ≡ Wired → IsOfSvcMoment m
-  pub remembered : AreRemembered a.state
+  pub remembered : UncleanAreKnown a.state
   pub short : AreShort a.state.host.images
 
 short-kept : (m : Moment) (a : Point) (x : Change m a) → IsMoment m.event

@@ -1,6 +1,6 @@
 -- What waits on the connection of a download.
-use Rattle.std.proofs.Common.{Bool, List, Some, ap, cond, false, inl, inr, refl, subst, sym}
-use Rattle.std.proofs.Common.{true, ℕ, ⊎_elim, [], ◌++◌, ◌∙◌, ◌∷◌, ◌≡◌, ◌⊎◌}
+use Rattle.std.proofs.Common.{Bool, List, Some, ap, cond, false, inl, inr, refl, subst, sym, true}
+use Rattle.std.proofs.Common.{ℕ, ⊎_elim, [], ◌++◌, ◌∷◌, ◌≡◌, ◌⊎◌}
 use Rattle.gb_base.specs.declared.end.Side.{Side}
 use Rattle.gb_base.specs.declared.end.Side.TheVariants as side
 use Rattle.gb_machine.specs.Bus.{Ask, Bus, Connection, Item, Raw, next_number, other_side, queue}
@@ -8,9 +8,9 @@ use Rattle.gb_machine.specs.Labels.{with_last_label}
 use Rattle.gb_machine.specs.Lists.{behind_first, first}
 use Rattle.gb_machine.specs.Members.{IsIn}
 use Rattle.gb_machine.specs.Sending.{Draft, drawn, put, queued}
+use Rattle.gb_invariants.proofs.Awaiting.{same-some}
 use Rattle.gb_invariants.proofs.BusChanges.{BusChange, becomes}
 use Rattle.gb_invariants.proofs.Lists.{in-pushed}
-use Rattle.gb_invariants.proofs.Awaiting.{same-some}
 
 -- ---- requests that wait
 
@@ -60,27 +60,27 @@ behind-new w n (x ∷ xs) fresh =
 -- ---- a queue behind a change
 
 -- the item that a change brings toward a side of its connection
-abbrev pub Brings : BusChange → Bus → Side → Item → Type 0
-Brings (BusChange.sends d label) b at item =
+abbrev pub BringsTo : BusChange → Bus → Side → Item → Type 0
+BringsTo (BusChange.sends d label) b at item =
     (at ≡ other_side d.side) × (item ≡ Ask (next_number b))
-Brings (BusChange.puts k s x) b at item = (at ≡ s) × (item ≡ x)
-Brings (BusChange.injects k bytes) b at item = (at ≡ side.Ap) × (item ≡ Raw bytes)
-Brings _ b at item = ⊥
+BringsTo (BusChange.puts k s x) b at item = (at ≡ s) × (item ≡ x)
+BringsTo (BusChange.injects k bytes) b at item = (at ≡ side.Ap) × (item ≡ Raw bytes)
+BringsTo _ b at item = ⊥
 
 -- What becomes of a queue toward a side: it stays, loses its front, is lost, or gets an item.
 pub data Queued (x : BusChange) (b : Bus) (at : Side) (q after : List Item) : Type 0 where
   same : after ≡ q → Queued x b at q after
   fewer : after ≡ behind_first q → Queued x b at q after
   lost : after ≡ [] → Queued x b at q after
-  more : (item : Item) → after ≡ q ++ item ∷ [] → Brings x b at item → Queued x b at q after
+  more : (item : Item) → after ≡ q ++ item ∷ [] → BringsTo x b at item → Queued x b at q after
 
 -- where an item is put
 put-queued : (x : BusChange) (b : Bus) (s at : Side) (item : Item) (c : Connection)
-    (was : List Item) → queue at c ≡ was → (at ≡ s → Brings x b at item)
+    (was : List Item) → queue at c ≡ was → (at ≡ s → BringsTo x b at item)
     → Queued x b at was (queue at (put s item c))
 put-queued x b s at item c was e brings = by c.wired s at e brings
   where
-    by : (t : Bool) (s at : Side) → queue at c ≡ was → (at ≡ s → Brings x b at item)
+    by : (t : Bool) (s at : Side) → queue at c ≡ was → (at ≡ s → BringsTo x b at item)
         → Queued x b at was (queue at (cond t (queued s item c) c))
     by false s at e brings = same e
     by true side.Ap side.Ap e brings = more item (ap (λ q. q ++ item ∷ []) e) (brings refl)
@@ -127,22 +127,22 @@ queue-after _ b c at = same refl
 
 -- what waits then waited, or is brought
 pub in-queued : {x : BusChange} {b : Bus} {at : Side} {q after : List Item} (item : Item)
-    → Queued x b at q after → IsIn item after → IsIn item q ⊎ Brings x b at item
+    → Queued x b at q after → IsIn item after → IsIn item q ⊎ BringsTo x b at item
 in-queued {x} {b} {at} {q} item (same e) i = inl (subst (λ xs. IsIn item xs) e i)
 in-queued {x} {b} {at} {q} item (fewer e) i =
     inl (in-fewer item q (subst (λ xs. IsIn item xs) e i))
 in-queued item (lost e) i = absurd (subst (λ xs. IsIn item xs) e i)
 in-queued {x} {b} {at} {q} item (more y e brings) i =
-    ⊎_elim (λ o. inl o) (λ s. inr (subst (Brings x b at) (sym s) brings))
+    ⊎_elim (λ o. inl o) (λ s. inr (subst (BringsTo x b at) (sym s) brings))
     (in-pushed item q y (subst (λ xs. IsIn item xs) e i))
 
 -- none stands behind a request still
 pub behind-queued : {x : BusChange} {b : Bus} {at : Side} {q after : List Item} (w : ℕ)
-    → Queued x b at q after → ((n : ℕ) → Brings x b at (Ask n) → ⊥) → NoneBehind w q
+    → Queued x b at q after → ((n : ℕ) → BringsTo x b at (Ask n) → ⊥) → NoneBehind w q
     → NoneBehind w after
 behind-queued w (same e) none h = subst (NoneBehind w) (sym e) h
 behind-queued {x} {b} {at} {q} w (fewer e) none h =
     subst (NoneBehind w) (sym e) (behind-fewer w q h)
 behind-queued w (lost e) none h = subst (NoneBehind w) (sym e) tt
 behind-queued {x} {b} {at} {q} w (more y e brings) none h = subst (NoneBehind w) (sym e)
-    (behind-more w q y (λ n s. none n (subst (Brings x b at) s brings)) h)
+    (behind-more w q y (λ n s. none n (subst (BringsTo x b at) s brings)) h)

@@ -1,46 +1,37 @@
 -- What is known where the answer of success to the last request of a firmware device is delivered.
-use Rattle.std.proofs.Common.{Bool, List, None, Option, Some, ap, false, inl, inr, refl, subst, sym}
-use Rattle.std.proofs.Common.{true, ℕ, ⊎_elim, [], ◌∙◌, ◌∷◌, ◌≡◌, ◌≢◌}
-use Rattle.std.specs.Prelude.{◌&&◌, ◌==◌}
+use Rattle.std.proofs.Common.{Bool, List, None, Some, ap, false, inl, inr, refl, subst, sym, true}
+use Rattle.std.proofs.Common.{ℕ, [], ◌∙◌, ◌∷◌, ◌≡◌, ◌≢◌}
+use Rattle.std.specs.Prelude.{◌==◌}
 use Rattle.gb_base.specs.declared.download.Next.{Next}
-use Rattle.gb_base.specs.declared.end.{End.End, Side.Side}
 use Rattle.gb_base.specs.declared.end.End.TheVariants as end
 use Rattle.gb_base.specs.declared.end.Side.TheVariants as side
-use Rattle.gb_base.specs.declared.event.Event.TheVariants as event
 use Rattle.gb_base.specs.declared.outcome.Outcome.TheVariants as outcome
-use Rattle.gb_formats.specs.Loader.{Download, Loaded, Loader}
+use Rattle.gb_formats.specs.Loader.{Loaded, Loader}
 use Rattle.gb_formats.specs.Module.{CportState, Module}
 use Rattle.gb_formats.specs.ModuleLoads.{if_may_ask}
 use Rattle.gb_formats.specs.Results.{success}
-use Rattle.gb_machine.specs.Bus.{Connection, Place, Reply, Request, place_of, queue, request_of}
-use Rattle.gb_machine.specs.Bus.{same_end}
+use Rattle.gb_machine.specs.Bus.{Connection, Place, Reply, Request, queue, same_end}
 use Rattle.gb_machine.specs.LawsBus.{AreApart}
 use Rattle.gb_machine.specs.LawsFirmware.{WasClean}
 use Rattle.gb_machine.specs.Lists.{first}
-use Rattle.gb_machine.specs.Members.{Each, EachTwo, IsIn}
+use Rattle.gb_machine.specs.Members.{EachTwo, IsIn}
 use Rattle.gb_machine.specs.Modules.{with_module}
 use Rattle.gb_machine.specs.Runs.{Moment}
-use Rattle.gb_machine.specs.State.{Load, Plugged, State}
-use Rattle.gb_invariants.proofs.Awaiting.{none-some, same-some}
+use Rattle.gb_machine.specs.State.{Load}
+use Rattle.gb_invariants.proofs.Awaiting.{same-some}
 use Rattle.gb_invariants.proofs.ItemChanges.{first-in}
 use Rattle.gb_invariants.proofs.Lists.{each-in, found-in, not-both}
-use Rattle.gb_invariants.proofs.Outcomes.{is-same}
 use Rattle.gb_invariants.proofs.Selves.{svc-no-module}
-use Rattle.gb_laws.proofs.firmware.FirmwareOnward.{AreRemembered, Onward}
+use Rattle.gb_laws.proofs.firmware.FirmwareOnward.{Onward, UncleanAreKnown, one-place}
 use Rattle.gb_laws.proofs.firmware.LoaderSteps.{ChangesIn, EndsLoader, changes-in, ended-loader}
 use Rattle.gb_laws.proofs.firmware.NextPieces.{Answered, answered-so}
-use Rattle.gb_laws.proofs.firmware.Running.{Fetches, FitsAt, Free, IsGood, QuietAt, RunAt, RunIn}
-use Rattle.gb_laws.proofs.firmware.Running.{Running}
+use Rattle.gb_laws.proofs.firmware.Running.{FitsAt, Free, IsGood, QuietAt, RunAt, RunIn, Running}
 use Rattle.gb_laws.proofs.points.Places.{place-is}
 use Rattle.gb_laws.proofs.points.PointParts.{Point, Wired}
 use Rattle.gb_laws.proofs.points.Points.{HearsBack, loader_in}
+use Rattle.gb_laws.proofs.runs.SettleQueues.{end-self}
 
 -- ---- one connection for a far end
-
-end-self : (e : End) → same_end e e ≡ true
-end-self (end.Ap a) = is-same a
-end-self end.Svc = refl
-end-self (end.Module i c) = ap (λ t. t && (c == c)) (is-same i) ∙ is-same c
 
 apart-peers : (c d : Connection) → AreApart c d → c.peer ≡ d.peer → ⊥
 apart-peers c d h e = not-both (same_end c.peer d.peer)
@@ -81,7 +72,7 @@ pub record Heard (m : Moment) (a : Point) (i c : ℕ) (x : Module) (what : Next)
   pub live : (d : Connection) → IsIn d a.state.bus.connections → d.wired ≡ true
       → d.peer ≡ end.Module i c → d.number ≡ run.trail.connection
 
-module _ (m : Moment) (a : Point) (rested : RunAt m.before) (remembered : AreRemembered m.before)
+module _ (m : Moment) (a : Point) (rested : RunAt m.before) (remembered : UncleanAreKnown m.before)
     (apart : EachTwo AreApart m.before.bus.connections) (on : Onward m a) (runs : RunIn m a) where
   pub heard : (i c : ℕ) (x : Module) (what : Next) → HearsBack m a.state i c x what
       → Heard m a i c x what
@@ -98,8 +89,12 @@ module _ (m : Moment) (a : Point) (rested : RunAt m.before) (remembered : AreRem
     payload = h.payload;
     answered = said;
     run = run;
-    reply = λ w. (run.clean w).reply h.payload (inr (h.heard.place.connection, live, number,
-        waits w));
+    reply = λ w. (run.clean w).reply h.payload (inr (
+      h.heard.place.connection,
+      live,
+      number,
+      waits w,
+    ));
     live = own;
   }
     where
@@ -169,16 +164,12 @@ module _ (m : Moment) (a : Point) (rested : RunAt m.before) (remembered : AreRem
               (subst (λ s. first (queue s p.connection) ≡ Some (Reply h.last.request success
               h.payload)) far (h.heard.front ∙ ap Some (h.heard.numbered e)))
 
-      same-at : (x y : End) → event.Deliver x ≡ event.Deliver y → x ≡ y
-      same-at x y e = cc
-
       unwired : a.wires ≢ Wired
       unwired e =
           let s = on.svc e in
-          let same = same-some s.place p (sym s.named
-          ∙ ap (λ x. place_of x m.before.bus.connections)
-          (same-at s.at h.heard.at (sym s.event ∙ h.heard.event)) ∙ h.heard.named) in
-          svc-no-module (sym s.svc ∙ ap (λ (q : Place). q.connection.peer) same ∙ peer)
+          svc-no-module (sym s.svc ∙ ap (λ (q : Place). q.connection.peer)
+          (one-place m s.at h.heard.at s.place p s.event h.heard.event s.named h.heard.named)
+          ∙ peer)
 
       own : (d : Connection) → IsIn d a.state.bus.connections → d.wired ≡ true
           → d.peer ≡ end.Module i c → d.number ≡ run.trail.connection

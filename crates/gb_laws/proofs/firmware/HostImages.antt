@@ -5,7 +5,6 @@ use Rattle.std.specs.Prelude.{Err, Ok, Result, ◌==◌}
 use Rattle.gb_base.specs.declared.event.Event.TheVariants as event
 use Rattle.gb_base.specs.declared.peers.Link.{Link}
 use Rattle.gb_base.specs.declared.steps.Purpose.{Purpose}
-use Rattle.gb_base.specs.declared.steps.SequenceStep.{SequenceStep}
 use Rattle.gb_formats.specs.FirmwareRecords.{read_firmware_ask}
 use Rattle.gb_formats.specs.GpioRecords.{GpioAsk, read_gpio_ask_of_module}
 use Rattle.gb_formats.specs.Images.{Images, image_of, images_step, lent_tag, with_image}
@@ -24,20 +23,20 @@ use Rattle.gb_machine.specs.Runs.{Moment}
 use Rattle.gb_machine.specs.SequenceSteps.{is_enumeration}
 use Rattle.gb_machine.specs.Serving.{protocol_bad}
 use Rattle.gb_machine.specs.State.{State}
-use Rattle.gb_machine.specs.Turns.{Turn}
-use Rattle.gb_machine.specs.Waits.{awaits, waiting}
+use Rattle.gb_machine.specs.Waits.{waiting}
 use Rattle.gb_invariants.proofs.HostChanges.{HostChange, HostEnd, Notice, Occasion, TurnLaw}
 use Rattle.gb_invariants.proofs.HostChanges.{at_notice, at_unsent, end_of, host_after, turn_of}
 use Rattle.gb_invariants.proofs.Lists.{found-in}
 use Rattle.gb_invariants.proofs.Outcomes.{same-number}
-use Rattle.gb_invariants.proofs.{OverFailures.over-unsent, OverTurns.over-turn}
-use Rattle.gb_laws.proofs.firmware.ImageFacts.{Fewer, Steps, all-fewer, forgotten-fewer}
-use Rattle.gb_laws.proofs.firmware.ImageFacts.{same-fewer, steps-read, then-fewer}
+use Rattle.gb_invariants.proofs.OverFailures.{over-unsent}
+use Rattle.gb_invariants.proofs.OverTurns.{over-turn}
+use Rattle.gb_laws.proofs.firmware.ImageFacts.{Fewer, Steps, all-fewer, forgotten-fewer, same-fewer}
+use Rattle.gb_laws.proofs.firmware.ImageFacts.{steps-read, then-fewer}
 use Rattle.gb_laws.proofs.links.LinkActs.{awaited-host}
 use Rattle.gb_laws.proofs.links.Turned.{svc-host}
+use Rattle.gb_laws.proofs.points.PointParts.{Point}
 use Rattle.gb_laws.proofs.points.Points.{Change, IsServed, acts_asked, acts_failed, changed, gives}
 use Rattle.gb_laws.proofs.points.Points.{serves, turns}
-use Rattle.gb_laws.proofs.{points.PointParts.Point}
 
 -- ---- turns
 

@@ -1,23 +1,20 @@
 -- What becomes of the images of the application processor, and of the ids under which it lends
 -- them.
-use Rattle.std.proofs.Common.{Bool, List, None, Option, Some, ap, arith, cond, false, inl, inr}
-use Rattle.std.proofs.Common.{length, refl, subst, sym, true, ℕ, ⊎_elim, [], ◌++◌, ◌+◌, ◌∙◌, ◌∷◌}
-use Rattle.std.proofs.Common.{◌≡◌, ◌≤◌, ◌⊎◌}
+use Rattle.std.proofs.Common.{Bool, List, None, Option, Some, ap, cond, false, inl, inr, length}
+use Rattle.std.proofs.Common.{refl, subst, sym, true, ℕ, [], ◌∙◌, ◌∷◌, ◌≡◌, ◌≤◌, ◌⊎◌}
 use Rattle.std.proofs.lemmas.List.Folds.{find-append}
 use Rattle.std.specs.List.{find, list_any}
 use Rattle.std.specs.Option.{option_or}
 use Rattle.std.specs.Prelude.{Err, Ok, Result, drop, option_map, take, ◌&&◌, ◌==◌}
 use Rattle.gb_base.specs.declared.peers.Link.{Link}
-use Rattle.gb_formats.specs.FirmwareRecords.{FirmwareAsk, FirmwareReply, read_firmware_ask}
+use Rattle.gb_formats.specs.FirmwareRecords.{FirmwareAsk, FirmwareReply}
 use Rattle.gb_formats.specs.Images.{Image, Images, Loan, fetch_step, find_step, finds, forgotten}
 use Rattle.gb_formats.specs.Images.{free_id, has_tag, image_of, images_asked, images_read}
-use Rattle.gb_formats.specs.Images.{images_step, is_astray, is_loan, lends, lent_bytes, lent_tag}
-use Rattle.gb_formats.specs.Images.{release_step, replies, tag_spelled, with_image, with_loan}
-use Rattle.gb_formats.specs.Images.{without_loan}
+use Rattle.gb_formats.specs.Images.{is_astray, is_loan, lends, lent_bytes, lent_tag, release_step}
+use Rattle.gb_formats.specs.Images.{replies, tag_spelled, with_image, with_loan, without_loan}
 use Rattle.gb_formats.specs.Records.{PayloadFault}
 use Rattle.gb_formats.specs.Results.{invalid, refuses}
 use Rattle.gb_machine.specs.Host.{all_forgotten}
-use Rattle.gb_machine.specs.Lists.{without}
 use Rattle.gb_machine.specs.Members.{IsIn}
 use Rattle.gb_invariants.proofs.Awaiting.{none-some, not-both, same-some}
 use Rattle.gb_invariants.proofs.Found.{find-left, find-pushed, first_free-is, none-any}
@@ -88,7 +85,8 @@ forgotten-fewer j x = record { given = refl; lent = λ k id t h. by k id t h (on
         none (Some l) e h =
             let f = found-in (is_loan k id) (forgotten j x).loans l e in
             let left = (in-without (λ (l : Loan). l.connection == j) x.loans l f.0).1 in
-            let on = same-number l.connection k (both-true (l.connection == k) (l.id == id) f.1).0 in
+            let on = same-number l.connection k
+            (both-true (l.connection == k) (l.id == id) f.1).0 in
             absurd (not-both (l.connection == j)
             (ap (λ n. n == j) (on ∙ same) ∙ is-same j) left)
 

@@ -1,22 +1,21 @@
 -- What a firmware device keeps came by its last download that was done.
 use Rattle.std.proofs.Common.{Bool, List, None, Option, Some, ap, cond, false, inl, inr, length}
-use Rattle.std.proofs.Common.{refl, subst, sym, true, ℕ, ⊎_elim, [], ◌++◌, ◌∙◌, ◌∷◌, ◌≡◌, ◌<◌, ◌⊎◌}
+use Rattle.std.proofs.Common.{refl, subst, sym, true, ℕ, ⊎_elim, [], ◌++◌, ◌<◌, ◌∙◌, ◌∷◌, ◌≡◌}
 use Rattle.std.proofs.lemmas.List.Folds.{find-append}
 use Rattle.std.specs.List.{filter, find}
 use Rattle.std.specs.Option.{option_or}
-use Rattle.std.specs.Prelude.{option_and_then, option_map, ◌==◌}
+use Rattle.std.specs.Prelude.{option_and_then, ◌==◌}
 use Rattle.gb_base.specs.declared.download.Next.TheVariants as next
-use Rattle.gb_formats.specs.Images.{Image, image_of}
-use Rattle.gb_formats.specs.Loader.{Awaits, Download, Loader, first_loader, loader_begun}
-use Rattle.gb_formats.specs.Loader.{loader_failed}
+use Rattle.gb_formats.specs.Images.{Image}
+use Rattle.gb_formats.specs.Loader.{Loader, loader_begun}
 use Rattle.gb_formats.specs.Module.{Module}
 use Rattle.gb_formats.specs.ModuleLoads.{if_may_ask, kept_at, loader_at, module_load}
 use Rattle.gb_machine.specs.Bus.{Connection, connection_of}
 use Rattle.gb_machine.specs.LawsBus.{AreApart}
-use Rattle.gb_machine.specs.LawsFirmware.{AreLoaded, Follow, IsLoaded, IsOnTrail, kept, ranges_of}
+use Rattle.gb_machine.specs.LawsFirmware.{AreLoaded, Follow, IsLoaded, kept, ranges_of}
 use Rattle.gb_machine.specs.Lists.{without}
-use Rattle.gb_machine.specs.Loading.{is_trail_at, with_loaded}
-use Rattle.gb_machine.specs.Members.{EachTwo, IsIn}
+use Rattle.gb_machine.specs.Loading.{is_trail_at}
+use Rattle.gb_machine.specs.Members.{EachTwo}
 use Rattle.gb_machine.specs.Modules.{module_at, with_module}
 use Rattle.gb_machine.specs.Runs.{Moment}
 use Rattle.gb_machine.specs.Sending.{Draft, label_for}
@@ -25,8 +24,8 @@ use Rattle.gb_invariants.proofs.Awaiting.{none-some, same-some}
 use Rattle.gb_invariants.proofs.BusChanges.{KeepsRequests}
 use Rattle.gb_invariants.proofs.Found.{find-left, none-of}
 use Rattle.gb_invariants.proofs.Lists.{found-in, in-filter, not-both}
-use Rattle.gb_invariants.proofs.Outcomes.{both-true, is-same, same-number}
-use Rattle.gb_laws.proofs.firmware.FirmwareOnward.{AreRemembered, Onward, unclean-kept}
+use Rattle.gb_invariants.proofs.Outcomes.{both-true, same-number}
+use Rattle.gb_laws.proofs.firmware.FirmwareOnward.{Onward, UncleanAreKnown, unclean-kept}
 use Rattle.gb_laws.proofs.firmware.HeardBack.{Heard, heard}
 use Rattle.gb_laws.proofs.firmware.LoaderSteps.{ChangesIn, asks-step, begun, changes-in}
 use Rattle.gb_laws.proofs.firmware.NextPieces.{Finished, FollowsSo, Went}
@@ -37,8 +36,8 @@ use Rattle.gb_laws.proofs.firmware.RunningNew.{Apart, trail-apart}
 use Rattle.gb_laws.proofs.firmware.RunningStays.{image-kept}
 use Rattle.gb_laws.proofs.points.ChangeBuses.{keeps-requests}
 use Rattle.gb_laws.proofs.points.PointParts.{Point}
-use Rattle.gb_laws.proofs.points.Points.{Change, HearsBack, IsAskedBy, IsElse, IsFarAsking, IsGoing}
-use Rattle.gb_laws.proofs.points.Points.{IsIdle, IsOfSvc, KeepLoaders, StaysOrFails, asks, begins}
+use Rattle.gb_laws.proofs.points.Points.{Change, HearsBack, IsElse, IsFarAsking, IsGoing, IsIdle}
+use Rattle.gb_laws.proofs.points.Points.{IsOfSvc, KeepLoaders, StaysOrFails, asks, begins}
 use Rattle.gb_laws.proofs.points.Points.{by_loader, changed, continues, finishes, loader_in, others}
 use Rattle.gb_laws.proofs.points.Points.{unloads}
 
@@ -218,7 +217,7 @@ loaded-aside i c j d loaded loading other =
     ∙ find-left (is_trail_at j d) (is_trail_at i c) loaded
     (λ t e. trail-apart j d i c t (λ a b. other (sym a) (sym b)) e)
 
-module _ (m : Moment) (a : Point) (rested : RunAt m.before) (remembered : AreRemembered m.before)
+module _ (m : Moment) (a : Point) (rested : RunAt m.before) (remembered : UncleanAreKnown m.before)
     (apart : EachTwo AreApart m.before.bus.connections) (on : Onward m a) (runs : RunIn m a) where
   -- where one goes on
   pub continues-loaded : (d : Draft) (c : Connection) (label : ℕ)

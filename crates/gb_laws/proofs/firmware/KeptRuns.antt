@@ -1,6 +1,5 @@
 -- What a firmware device keeps is the image that was given, in every state of every run.
-use Rattle.std.proofs.Common.{List, None, Some, ap, false, inl, inr, refl, ℕ, [], ◌++◌}
-use Rattle.std.proofs.Common.{◌∷◌, ◌≡◌}
+use Rattle.std.proofs.Common.{List, ap, false, inl, inr, refl, ◌++◌, ◌≡◌}
 use Rattle.gb_base.specs.declared.entry.Entry.{Entry}
 use Rattle.gb_machine.specs.Bus.{Connection}
 use Rattle.gb_machine.specs.LawsBus.{AreApart}
@@ -11,7 +10,7 @@ use Rattle.gb_machine.specs.State.{State, first_state}
 use Rattle.gb_invariants.proofs.Awaiting.{none-some}
 use Rattle.gb_invariants.proofs.Lists.{not-both}
 use Rattle.gb_laws.proofs.basis.Basics.{basis}
-use Rattle.gb_laws.proofs.firmware.FirmwareOnward.{AreRemembered, Onward, onward-kept}
+use Rattle.gb_laws.proofs.firmware.FirmwareOnward.{Onward, UncleanAreKnown, onward-kept}
 use Rattle.gb_laws.proofs.firmware.ImageFacts.{AreShort}
 use Rattle.gb_laws.proofs.firmware.KeptImages.{KeptAt, aside-loaded, begins-loaded}
 use Rattle.gb_laws.proofs.firmware.KeptImages.{continues-loaded, finishes-loaded, others-loaded}
@@ -25,13 +24,13 @@ use Rattle.gb_laws.proofs.points.PointParts.{Basis, Point, resting}
 use Rattle.gb_laws.proofs.points.Points.{Change, Law, asks, begins, by_loader, changed, continues}
 use Rattle.gb_laws.proofs.points.Points.{finishes, others, unloads, upon}
 use Rattle.gb_laws.proofs.runs.AllRuns.{of-all, of-untold}
-use Rattle.gb_laws.proofs.runs.Runs.{HoldsByMoments, Keeps, throughout, weaker}
+use Rattle.gb_laws.proofs.runs.Runs.{HoldsByMoments, throughout, weaker}
 use Rattle.gb_laws.proofs.steps.Steps.{over-step}
 
 -- What holds of firmware devices in a state at rest.
 pub record DownloadsTo (told : List Entry) (s : State) : Type 0 where
   pub apart : ApartTo told s
-  pub remembered : AreRemembered s
+  pub remembered : UncleanAreKnown s
   pub short : AreShort s.host.images
   pub runs : RunAt s
   pub kept : KeptAt s
@@ -95,10 +94,13 @@ module _ (m : Moment) (one : IsMoment m.event) (start : DownloadsTo m.told m.bef
 
   pub downloads-over : DownloadsTo (m.told ++ told_at m) (after m)
   downloads-over =
-      let r = over-step m downloads_law one ((start.apart.links.0, first-point), (
-        runs-start m _ start.apart.links.0.bus start.remembered start.short start.runs,
-        start.kept,
-      )) in record {
+      let r = over-step m downloads_law one (
+        (start.apart.links.0, first-point),
+        (
+          runs-start m _ start.apart.links.0.bus start.remembered start.short start.runs,
+          start.kept,
+        ),
+      ) in record {
         apart = apart-over m one start.apart;
         remembered = r.1.0.1.remembered;
         short = r.1.0.1.short;

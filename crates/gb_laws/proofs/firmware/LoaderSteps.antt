@@ -1,6 +1,6 @@
 -- What becomes of the loaders of a module: one changes with its download, and the others stay.
-use Rattle.std.proofs.Common.{Bool, List, None, Option, Some, ap, cond, false, inl, inr, refl}
-use Rattle.std.proofs.Common.{subst, sym, true, ℕ, [], ◌∙◌, ◌∷◌, ◌≡◌}
+use Rattle.std.proofs.Common.{Bool, List, None, Option, Some, ap, cond, false, refl, subst, sym}
+use Rattle.std.proofs.Common.{true, ℕ, [], ◌∙◌, ◌∷◌, ◌≡◌}
 use Rattle.std.specs.List.{find}
 use Rattle.std.specs.Prelude.{option_and_then, option_map, ◌==◌}
 use Rattle.gb_base.specs.declared.download.Next.{Next}
@@ -12,13 +12,12 @@ use Rattle.gb_formats.specs.Module.{CportState, Module, ModulePort, is_on, is_po
 use Rattle.gb_formats.specs.Module.{with_changed, with_port}
 use Rattle.gb_formats.specs.ModuleLoads.{ModuleLoaded, device_ended, if_may_ask, loader_at}
 use Rattle.gb_formats.specs.ModuleLoads.{loader_changed, loader_of, module_ended, module_load}
-use Rattle.gb_formats.specs.ModuleLoads.{port_ended, port_loaded, port_loader, unasked}
-use Rattle.gb_formats.specs.ModuleLoads.{with_loader}
+use Rattle.gb_formats.specs.ModuleLoads.{port_ended, port_loaded, port_loader, unasked, with_loader}
 use Rattle.gb_machine.specs.Modules.{is_plugged_at, module_at, with_module}
 use Rattle.gb_machine.specs.State.{Plugged}
 use Rattle.gb_invariants.proofs.Awaiting.{none-some, same-some}
 use Rattle.gb_invariants.proofs.Found.{find-aside, find-changed}
-use Rattle.gb_invariants.proofs.Lists.{found-in, not-both}
+use Rattle.gb_invariants.proofs.Lists.{found-in}
 use Rattle.gb_invariants.proofs.Outcomes.{is-same, same-number}
 use Rattle.gb_laws.proofs.points.Loadings.{loader_in}
 
@@ -36,7 +35,8 @@ changed-here new (p ∷ ps) old h = by (p.number == new.number) refl h (changed-
         → (find (is_port new.number) ps ≡ Some old
         → find (is_port new.number) (with_port new ps) ≡ Some new)
         → find (is_port new.number) (cond t (new ∷ ps) (p ∷ with_port new ps)) ≡ Some new
-    by true e h rec = ap (λ t. cond t (Some new) (find (is_port new.number) ps)) (is-same new.number)
+    by true e h rec =
+        ap (λ t. cond t (Some new) (find (is_port new.number) ps)) (is-same new.number)
     by false e h rec =
         ap (λ t. cond t (Some p) (find (is_port new.number) (with_port new ps))) e ∙ rec h
 

@@ -1,16 +1,15 @@
 -- What follows in a download once its request was answered with success.
 use Rattle.std.proofs.Common.{Bool, List, None, Option, Some, ap, cond, false, length, refl, subst}
-use Rattle.std.proofs.Common.{sym, true, ℕ, [], ◌++◌, ◌∙◌, ◌∷◌, ◌≡◌}
+use Rattle.std.proofs.Common.{sym, true, ℕ, ◌++◌, ◌∙◌, ◌≡◌}
 use Rattle.std.specs.Prelude.{Err, Ok, Result, ◌==◌}
 use Rattle.gb_base.specs.declared.download.Next.{Next}
 use Rattle.gb_base.specs.declared.download.Next.TheVariants as next
 use Rattle.gb_base.specs.declared.outcome.Outcome.TheVariants as outcome
 use Rattle.gb_base.specs.declared.served.OwnAsk.{OwnAsk}
 use Rattle.gb_formats.specs.FirmwareRecords.{FirmwareReply, read_firmware_reply}
-use Rattle.gb_formats.specs.Images.{Image}
 use Rattle.gb_formats.specs.Loader.{Awaits, Download, Loaded, Loader, answered, ended_in, fails}
-use Rattle.gb_formats.specs.Loader.{fetch_ask, fetched, fetches, found, goes_on, is_done}
-use Rattle.gb_formats.specs.Loader.{loader_ended, piece, release_ask, released}
+use Rattle.gb_formats.specs.Loader.{fetch_ask, fetched, fetches, found, goes_on, loader_ended}
+use Rattle.gb_formats.specs.Loader.{piece, release_ask, released}
 use Rattle.gb_formats.specs.Records.{PayloadFault}
 use Rattle.gb_formats.specs.Results.{success}
 use Rattle.gb_invariants.proofs.Awaiting.{none-some, same-some}

@@ -1,17 +1,15 @@
 -- A download that goes on has a longer front of the image, and its requests follow one another.
-use Rattle.std.proofs.Common.{Bool, List, None, Option, Some, ap, ap₂, arith, cond, false, inl, inr}
-use Rattle.std.proofs.Common.{length, length-append, refl, subst, sym, true, ℕ, ⊎_elim, [], ◌++◌}
-use Rattle.std.proofs.Common.{◌+◌, ◌-◌, ◌<◌, ◌∙◌, ◌∷◌, ◌≡◌, ◌≤◌, ◌⊎◌}
-use Rattle.std.proofs.lemmas.Bool.{cases_lt}
+use Rattle.std.proofs.Common.{List, Some, ap, ap₂, arith, inl, inr, length, length-append, refl}
+use Rattle.std.proofs.Common.{subst, sym, ℕ, [], ◌++◌, ◌+◌, ◌<◌, ◌∙◌, ◌∷◌, ◌≡◌, ◌≤◌, ◌⊎◌}
 use Rattle.std.proofs.Math.Seq.{take-add, take-length}
-use Rattle.std.specs.Prelude.{Err, Ok, Result, drop, min, take}
+use Rattle.std.proofs.lemmas.Bool.{cases_lt}
+use Rattle.std.specs.Prelude.{Err, Ok, Result, drop, take}
 use Rattle.gb_base.specs.declared.served.OwnAsk.{OwnAsk}
 use Rattle.gb_formats.specs.FirmwareRecords.{FirmwareAsk, FirmwareReply, read_firmware_ask}
 use Rattle.gb_formats.specs.FirmwareRecords.{read_firmware_reply}
 use Rattle.gb_formats.specs.Images.{image_of}
-use Rattle.gb_formats.specs.Loader.{Awaits, Download, fetch_ask, piece, release_ask}
+use Rattle.gb_formats.specs.Loader.{Awaits, Download, piece}
 use Rattle.gb_formats.specs.Records.{PayloadFault, le32}
-use Rattle.gb_machine.specs.Bus.{Connection}
 use Rattle.gb_machine.specs.Host.{Host}
 use Rattle.gb_machine.specs.LawsFirmware.{Follow, range_in}
 use Rattle.gb_machine.specs.State.{State}
@@ -65,22 +63,28 @@ module _ (fits : Fits) (t : State) (n k : ℕ) (short : AreShort t.host.images)
   piece-known id size d own e image given whole bytes most lent suits (last all is so) =
       subst (Known fits t n k (length d.bytes) own) (sym so)
       (subst (λ o. Known fits t n k (length d.bytes) o (record d { awaits = Awaits.Release }))
-      (sym is) (given ∙ ap Some (sym (take-length image)
-      ∙ ap (λ m. take m image) (sym whole ∙ sym all) ∙ sym bytes), refl))
+      (sym is) (
+        given ∙ ap Some (sym (take-length image)
+            ∙ ap (λ m. take m image) (sym whole ∙ sym all) ∙ sym bytes),
+        refl,
+      ))
   piece-known id size d own e image given whole bytes most lent suits (more part is so) =
       subst (Known fits t n k (length d.bytes) own) (sym so)
       (subst (λ o. Known fits t n k (length d.bytes) o (record d { awaits = Awaits.Fetch id size }))
-      (sym is) (record {
-        image = image;
-        given = given;
-        whole = whole;
-        bytes = bytes;
-        less = less;
-        lent = lent;
-        suits = suits;
-        only = only;
-      }, subst (λ rs. Follow (length d.bytes) rs (length d.bytes + piece size d.bytes))
-      (sym (ap range_in back)) (refl, one, refl)))
+      (sym is) (
+        record {
+          image = image;
+          given = given;
+          whole = whole;
+          bytes = bytes;
+          less = less;
+          lent = lent;
+          suits = suits;
+          only = only;
+        },
+        subst (λ rs. Follow (length d.bytes) rs (length d.bytes + piece size d.bytes))
+            (sym (ap range_in back)) (refl, one, refl),
+      ))
     where
       less : length d.bytes < size
       less = by (cases_lt (length d.bytes) size)

@@ -1,14 +1,11 @@
 -- What is read of the records that firmware devices and the application processor write.
-use Rattle.std.proofs.Common.{Bool, List, None, Option, Some, ap, arith, cond, false, length, refl}
-use Rattle.std.proofs.Common.{subst, suc, sym, true, zero, ℕ, [], ◌++◌, ◌+◌, ◌-◌, ◌<◌, ◌∙◌, ◌∷◌}
-use Rattle.std.proofs.Common.{◌≡◌, ◌≤◌}
-use Rattle.std.proofs.lemmas.Bool.Decides.{nat_tests}
-use Rattle.std.specs.List.{list_all}
-use Rattle.std.specs.Prelude.{Ok, drop, min, nat_le, nat_lt, option_map, replicate}
-use Rattle.std.specs.Prelude.{◌&&◌, ◌==◌}
-use Rattle.std.proofs.Common.{length-append}
-use Rattle.std.proofs.lemmas.List.{length-replicate}
+use Rattle.std.proofs.Common.{Bool, List, Some, ap, arith, cond, false, length, length-append, refl}
+use Rattle.std.proofs.Common.{suc, true, zero, ℕ, [], ◌++◌, ◌-◌, ◌∙◌, ◌∷◌, ◌≡◌, ◌≤◌}
 use Rattle.std.proofs.Math.Nat.{add-zero}
+use Rattle.std.proofs.lemmas.Bool.Decides.{nat_tests}
+use Rattle.std.proofs.lemmas.List.{length-replicate}
+use Rattle.std.specs.List.{list_all}
+use Rattle.std.specs.Prelude.{Ok, nat_le, nat_lt, option_map, replicate, ◌&&◌, ◌==◌}
 use Rattle.byteorder.specs.Endian.{little_number}
 use Rattle.byteorder.specs.Numbers.{little_number-reads_back}
 use Rattle.gb_base.specs.Name.{is_name_byte}
@@ -18,8 +15,8 @@ use Rattle.gb_formats.specs.FirmwareRecords.{read_firmware_reply}
 use Rattle.gb_formats.specs.Images.{tag_spelled}
 use Rattle.gb_formats.specs.Loader.{padded}
 use Rattle.gb_formats.specs.Records.{le32}
-use Rattle.gb_invariants.proofs.Outcomes.{both-true, same-number}
 use Rattle.gb_invariants.proofs.Lists.{not-both}
+use Rattle.gb_invariants.proofs.Outcomes.{both-true, same-number}
 
 -- the request that a FETCH is read as
 pub fetch-back : (id offset size : ℕ) → offset ≤ 4294967295 → size ≤ 4294967295

@@ -1,15 +1,11 @@
 -- What is known of the downloads that run is kept where one begins, goes on or is done.
-use Rattle.std.proofs.Common.{Bool, List, None, Option, Some, ap, ap₂, arith, cond, false, inl, inr}
-use Rattle.std.proofs.Common.{length, refl, subst, sym, true, ℕ, ⊎_elim, [], ◌++◌, ◌∙◌, ◌∷◌, ◌≡◌}
-use Rattle.std.proofs.Common.{◌+◌, ◌<◌, ◌≢◌, ◌≤◌, ◌⊎◌}
+use Rattle.std.proofs.Common.{Bool, List, None, Some, ap, ap₂, cond, false, inl, inr, length, refl}
+use Rattle.std.proofs.Common.{subst, sym, true, ℕ, ⊎_elim, [], ◌++◌, ◌+◌, ◌<◌, ◌∙◌, ◌∷◌, ◌≡◌, ◌≢◌}
+use Rattle.std.proofs.Common.{◌≤◌, ◌⊎◌}
 use Rattle.std.specs.List.{find}
-use Rattle.std.specs.Prelude.{Err, Ok, min, option_and_then, ◌&&◌, ◌==◌}
-use Rattle.gb_base.specs.declared.download.Next.{Next}
+use Rattle.std.specs.Prelude.{Err, Ok, min, ◌&&◌, ◌==◌}
 use Rattle.gb_base.specs.declared.download.Next.TheVariants as next
-use Rattle.gb_base.specs.declared.end.{End.End, Side.Side}
 use Rattle.gb_base.specs.declared.end.End.TheVariants as end
-use Rattle.gb_base.specs.declared.end.Side.TheVariants as side
-use Rattle.gb_base.specs.declared.event.Event.TheVariants as event
 use Rattle.gb_base.specs.declared.served.OwnAsk.{OwnAsk}
 use Rattle.gb_formats.specs.FirmwareRecords.{FirmwareAsk, read_firmware_ask}
 use Rattle.gb_formats.specs.Loader.{Awaits, Download, Loader, loader_begun}
@@ -21,26 +17,26 @@ use Rattle.gb_machine.specs.Bus.{Connection, connection_of, next_number}
 use Rattle.gb_machine.specs.LawsBus.{AreApart}
 use Rattle.gb_machine.specs.LawsFirmware.{Follow, WasClean, range_in, range_of, ranges_of}
 use Rattle.gb_machine.specs.Lists.{without}
-use Rattle.gb_machine.specs.Loading.{first_trail, is_load_at, is_trail_at, last_asked, longer_trail}
-use Rattle.gb_machine.specs.Members.{Each, EachTwo, IsIn}
+use Rattle.gb_machine.specs.Loading.{is_load_at, is_trail_at, last_asked}
+use Rattle.gb_machine.specs.Members.{EachTwo, IsIn}
 use Rattle.gb_machine.specs.Modules.{with_module}
 use Rattle.gb_machine.specs.Runs.{IsMoment, Moment}
 use Rattle.gb_machine.specs.Sending.{Draft, label_for, requested}
-use Rattle.gb_machine.specs.State.{Load, Plugged, State, Trail}
+use Rattle.gb_machine.specs.State.{Load, State, Trail}
 use Rattle.gb_invariants.proofs.Awaiting.{none-some, same-some}
 use Rattle.gb_invariants.proofs.Lists.{each-in, in-pushed, in-without, not-both}
 use Rattle.gb_invariants.proofs.Numbers.{found-number}
 use Rattle.gb_invariants.proofs.Outcomes.{is-same}
 use Rattle.gb_invariants.proofs.Selves.{svc-no-module}
 use Rattle.gb_invariants.specs.Facts.{BusFits, IsMade, Loose}
-use Rattle.gb_laws.proofs.firmware.FirmwareOnward.{AreRemembered, Onward}
+use Rattle.gb_laws.proofs.firmware.FirmwareOnward.{Onward, UncleanAreKnown}
 use Rattle.gb_laws.proofs.firmware.HeardBack.{Heard, heard}
 use Rattle.gb_laws.proofs.firmware.LoaderSteps.{ChangesIn, asks-step, begun, changes-in}
 use Rattle.gb_laws.proofs.firmware.NextPieces.{Finished, FollowsSo, GoesOn, Piece, Went}
 use Rattle.gb_laws.proofs.firmware.NextPieces.{behind_fetch, behind_find, last, more}
 use Rattle.gb_laws.proofs.firmware.PiecesKnown.{goes-known}
-use Rattle.gb_laws.proofs.firmware.Running.{AsksFor, AtNumber, Fetches, FitsAt, HasSoFar, IsFresh}
-use Rattle.gb_laws.proofs.firmware.Running.{IsGood, QuietAt, RunAt, RunIn, Running, reached}
+use Rattle.gb_laws.proofs.firmware.Running.{AsksFor, FitsAt, HasSoFar, IsFresh, IsGood, QuietAt}
+use Rattle.gb_laws.proofs.firmware.Running.{RunAt, RunIn, Running, reached}
 use Rattle.gb_laws.proofs.firmware.RunningKept.{one-or_apart}
 use Rattle.gb_laws.proofs.firmware.RunningMoved.{trails-kept}
 use Rattle.gb_laws.proofs.firmware.RunningNew.{Apart, first-aside, first-found, longer}
@@ -200,8 +196,12 @@ begins-kept m a one links before was basis on runs d c label free live drawn i p
         }) [] 0 refl c_live.0 c_live.1 going.4 refl refl
         (first-found i p d.connection (next_number a.state.bus) a.state.past.loading) tt other
         (subst IsMoment going.2 one).2 refl (going.10.1, going.10.2)
-        (λ w. (refl, subst (λ rs. Follow 0 rs 0) (sym (ap (λ k. range_in (read_firmware_ask k
-        d.payload)) going.10.1 ∙ find-range d.payload)) refl, tt)))
+        (λ w. (
+          refl,
+          subst (λ rs. Follow 0 rs 0) (sym (ap (λ k. range_in (read_firmware_ask k
+              d.payload)) going.10.1 ∙ find-range d.payload)) refl,
+          tt,
+        )))
 
     new : l ≡ record { intf = i; cport = p; request = next_number a.state.bus } → Runs l e
     new s = subst (λ k. Runs k e) (sym s) (subst (Runs _) (same-some first e
@@ -211,7 +211,7 @@ begins-kept m a one links before was basis on runs d c label free live drawn i p
 
 -- ---- what goes on
 
-module _ (m : Moment) (a : Point) (rested : RunAt m.before) (remembered : AreRemembered m.before)
+module _ (m : Moment) (a : Point) (rested : RunAt m.before) (remembered : UncleanAreKnown m.before)
     (apart : EachTwo AreApart m.before.bus.connections) (before : List Loose)
     (was : BusFits before m.before.bus) (basis : Basis a) (on : Onward m a) (runs : RunIn m a) where
   pub continues-kept : (d : Draft) (c : Connection) (label : ℕ) (free : a.hand ≡ None)

@@ -1,48 +1,37 @@
 -- What is known of the downloads that run is kept by each single change.
-use Rattle.std.proofs.Common.{Bool, List, None, Option, Some, ap, arith, cond, false, inl, inr}
-use Rattle.std.proofs.Common.{refl, subst, sym, true, ℕ, ⊎_elim, [], ◌++◌, ◌∙◌, ◌∷◌, ◌≡◌, ◌≤◌, ◌⊎◌}
+use Rattle.std.proofs.Common.{Bool, List, None, Option, Some, ap, false, inl, inr, refl, subst, sym}
+use Rattle.std.proofs.Common.{true, ℕ, ⊎_elim, ◌∙◌, ◌≡◌, ◌⊎◌}
 use Rattle.std.specs.List.{find}
-use Rattle.std.specs.Prelude.{option_and_then, option_map, ◌==◌}
-use Rattle.gb_base.specs.declared.download.Next.TheVariants as next
-use Rattle.gb_base.specs.declared.end.{End.End, Side.Side}
-use Rattle.gb_base.specs.declared.end.End.TheVariants as end
+use Rattle.std.specs.Prelude.{◌==◌}
 use Rattle.gb_base.specs.declared.end.Side.TheVariants as side
-use Rattle.gb_base.specs.declared.event.Event.TheVariants as event
-use Rattle.gb_base.specs.declared.served.OwnAsk.{OwnAsk}
-use Rattle.gb_formats.specs.Loader.{Download, Loaded, Loader, find_ask, first_loader, loader_begun}
-use Rattle.gb_formats.specs.Loader.{loader_failed}
-use Rattle.gb_formats.specs.Module.{Module}
-use Rattle.gb_formats.specs.ModuleLoads.{loader_at, module_load}
-use Rattle.gb_machine.specs.Bus.{Ask, Connection, Reply, RawReply, Request, next_number, other_side}
-use Rattle.gb_machine.specs.Incoming.{Incoming, reply_item, reply_to}
-use Rattle.gb_machine.specs.LawsBus.{AreApart}
-use Rattle.gb_machine.specs.Lists.{without}
-use Rattle.gb_machine.specs.Loading.{is_load_at, is_trail_at, last_asked}
-use Rattle.gb_machine.specs.Members.{EachTwo, IsIn}
-use Rattle.gb_machine.specs.Modules.{module_at, with_module}
-use Rattle.gb_machine.specs.Runs.{IsMoment, Moment}
+use Rattle.gb_formats.specs.Loader.{Download, Loader, first_loader, loader_failed}
+use Rattle.gb_machine.specs.Bus.{Ask, other_side}
+use Rattle.gb_machine.specs.Incoming.{Incoming, reply_to}
+use Rattle.gb_machine.specs.Loading.{is_trail_at}
+use Rattle.gb_machine.specs.Members.{IsIn}
+use Rattle.gb_machine.specs.Modules.{module_at}
+use Rattle.gb_machine.specs.Runs.{Moment}
 use Rattle.gb_machine.specs.Sending.{Draft}
 use Rattle.gb_machine.specs.Serving.{Answer}
-use Rattle.gb_machine.specs.State.{Load, Plugged, Port, State, Trail}
+use Rattle.gb_machine.specs.State.{Load, Plugged, Port}
 use Rattle.gb_invariants.proofs.Awaiting.{none-some, same-some}
 use Rattle.gb_invariants.proofs.BusChanges.{number_of}
 use Rattle.gb_invariants.proofs.Found.{find-left}
-use Rattle.gb_invariants.proofs.Lists.{in-append, in-without, not-both}
+use Rattle.gb_invariants.proofs.Lists.{in-without, not-both}
 use Rattle.gb_invariants.proofs.Numbers.{found-number}
 use Rattle.gb_invariants.proofs.Outcomes.{both-true, is-same, same-number}
 use Rattle.gb_invariants.proofs.Selves.{ap-no-far}
-use Rattle.gb_laws.proofs.firmware.FirmwareOnward.{AreRemembered, Onward, awaited-loads}
-use Rattle.gb_laws.proofs.firmware.FirmwareQueues.{Brings}
-use Rattle.gb_laws.proofs.firmware.HeardBack.{Heard, heard}
-use Rattle.gb_laws.proofs.firmware.LoaderSteps.{ChangesIn, asks-step, begun, changes-in}
-use Rattle.gb_laws.proofs.firmware.Running.{FitsAt, RunAt, RunIn, Running}
+use Rattle.gb_laws.proofs.firmware.FirmwareOnward.{Onward, SameDownloads, awaited-downloads}
+use Rattle.gb_laws.proofs.firmware.FirmwareQueues.{BringsTo}
+use Rattle.gb_laws.proofs.firmware.Running.{FitsAt, RunIn, Running}
 use Rattle.gb_laws.proofs.firmware.RunningNew.{Apart}
 use Rattle.gb_laws.proofs.firmware.RunningStays.{run-moved}
 use Rattle.gb_laws.proofs.points.ChangeBuses.{bus_change}
 use Rattle.gb_laws.proofs.points.PointParts.{Basis, Point}
-use Rattle.gb_laws.proofs.points.Points.{Change, Going, IsElse, IsOfSvc, KeepLoaders, StaysOrFails, acts_asked, asks, begins, by_far}
-use Rattle.gb_laws.proofs.points.Points.{by_host, by_loader, changed, continues, finishes, loader_in}
-use Rattle.gb_laws.proofs.points.Points.{injects, names, others, replies, unloads}
+use Rattle.gb_laws.proofs.points.Points.{Change, IsElse, IsOfSvc, KeepLoaders, StaysOrFails}
+use Rattle.gb_laws.proofs.points.Points.{acts_asked, asks, by_far, by_host, by_loader, changed}
+use Rattle.gb_laws.proofs.points.Points.{finishes, injects, loader_in, names, others, replies}
+use Rattle.gb_laws.proofs.points.Points.{unloads}
 
 -- ---- changes by which no download goes on
 
@@ -55,17 +44,10 @@ IsAside m a (others booted marks ports modules same) = ⊥
 IsAside m a _ = Unit {0}
 
 -- then all of them stay
-pub record SameDownloads (s t : State) : Type 0 where
-  pub modules : t.modules ≡ s.modules
-  pub loads : t.loads ≡ s.loads
-  pub loading : t.past.loading ≡ s.past.loading
-  pub loaded : t.past.loaded ≡ s.past.loaded
-
 pub same-downloads : (m : Moment) (a : Point) (x : Change m a) → IsAside m a x
     → SameDownloads a.state (changed m a x).state
 same-downloads m a (acts_asked q n rest is) plain =
-    let w = awaited-loads q.purpose n a.state in
-    record { modules = w.modules; loads = w.loads; loading = w.loading; loaded = w.loaded }
+    (awaited-downloads q.purpose n a.state).0
 same-downloads m a (asks d c label free live drawn (by_host q rest is draft none)) plain =
     record { modules = refl; loads = refl; loading = refl; loaded = refl }
 same-downloads m a (asks d c label free live drawn (by_far who on unloaded)) plain =
@@ -87,7 +69,7 @@ none-comes : (m : Moment) (a : Point) (x : Change m a) → IsAside m a x → (l 
     (r : Loader) → loader_in l.intf l.cport a.state.modules ≡ Some r
     → (run : Running (FitsAt m) m.before.bus.connections a.hand a.state l d) (n : ℕ)
     → number_of (bus_change x) ≡ run.trail.connection
-    → Brings (bus_change x) a.state.bus side.Ap (Ask n) → ⊥
+    → BringsTo (bus_change x) a.state.bus side.Ap (Ask n) → ⊥
 none-comes m a (asks d' c label free live drawn (by_host q rest is draft none)) plain l d r at run n
     on brings = ap-no-far (brings.0 ∙ ap (λ (y : Draft). other_side y.side) draft)
 none-comes m a (asks d' c label free live drawn (by_far who wired unloaded)) plain l d r at run n on
@@ -153,7 +135,8 @@ others-kept m a booted marks ports modules same basis on runs l i r at d ran =
     by o e (inl stays) = runs l i r (e ∙ sym stays ∙ at) d ran
     by o e (inr (inl none)) = absurd (none-some (sym none ∙ at))
     by o e (inr (inr (inl fresh))) =
-        absurd (unrunning r first_loader d (sym (same-some first_loader r (sym fresh ∙ at))) refl ran)
+        absurd (unrunning r first_loader d (sym (same-some first_loader r (sym fresh ∙ at))) refl
+        ran)
     by None e (inr (inr (inr failed))) = absurd (none-some (sym failed ∙ at))
     by (Some s) e (inr (inr (inr failed))) = absurd (unrunning r (loader_failed s) d
         (sym (same-some (loader_failed s) r (sym failed ∙ at))) refl ran)

@@ -1,25 +1,24 @@
 -- What is known of a running download stays where something else changes.
-use Rattle.std.proofs.Common.{Bool, List, None, Option, Some, ap, ap₂, arith, cond, false, inl, inr}
-use Rattle.std.proofs.Common.{length, refl, subst, sym, true, ℕ, ⊎_elim, [], ◌++◌, ◌+◌, ◌<◌, ◌∙◌}
-use Rattle.std.proofs.Common.{◌∷◌, ◌≡◌, ◌≤◌, ◌⊎◌}
-use Rattle.gb_base.specs.declared.end.{End.End, Side.Side}
+use Rattle.std.proofs.Common.{List, Option, Some, ap, ap₂, arith, inl, inr, refl, subst, sym, ℕ}
+use Rattle.std.proofs.Common.{⊎_elim, [], ◌++◌, ◌∙◌, ◌∷◌, ◌≡◌, ◌≤◌, ◌⊎◌}
+use Rattle.gb_base.specs.declared.end.End.{End}
+use Rattle.gb_base.specs.declared.end.Side.{Side}
 use Rattle.gb_base.specs.declared.end.Side.TheVariants as side
 use Rattle.gb_formats.specs.Images.{image_of}
 use Rattle.gb_formats.specs.Loader.{Awaits, Download}
 use Rattle.gb_formats.specs.Results.{success}
-use Rattle.gb_machine.specs.Bus.{Ask, Bus, Connection, Reply, Request, queue, request_of}
-use Rattle.gb_machine.specs.LawsFirmware.{Follow, IsOnTrail, WasClean, range_of, ranges_of}
+use Rattle.gb_machine.specs.Bus.{Ask, Bus, Connection, Reply, queue}
+use Rattle.gb_machine.specs.LawsFirmware.{Follow, IsOnTrail, range_of, ranges_of}
 use Rattle.gb_machine.specs.Members.{Each, IsIn}
-use Rattle.gb_machine.specs.State.{Load, State, Trail}
-use Rattle.gb_invariants.proofs.BusChanges.{BusChange, KeepsRequests, Was, becomes, bus_after, came}
-use Rattle.gb_invariants.proofs.BusChanges.{goes, number_of, requests-after, stayed, was, went}
+use Rattle.gb_machine.specs.State.{State, Trail}
+use Rattle.gb_invariants.proofs.BusChanges.{BusChange, KeepsRequests, Was, bus_after, came}
+use Rattle.gb_invariants.proofs.BusChanges.{number_of, requests-after, stayed, was, went}
 use Rattle.gb_invariants.proofs.Wires.{made-number}
-use Rattle.gb_laws.proofs.firmware.FirmwareQueues.{Brings, NoAsks, NoneBehind, OnlyAsk, Queued}
+use Rattle.gb_laws.proofs.firmware.FirmwareQueues.{BringsTo, NoneBehind, OnlyAsk, Queued}
 use Rattle.gb_laws.proofs.firmware.FirmwareQueues.{behind-queued, in-queued, queue-after}
 use Rattle.gb_laws.proofs.firmware.ImageFacts.{LentAs}
-use Rattle.gb_laws.proofs.firmware.Running.{AsksFor, AtNumber, Fetches, Fits, FoundIt, HasPart}
-use Rattle.gb_laws.proofs.firmware.Running.{HasReply, HasSoFar, IsGood, QuietAt, Replied, Running}
-use Rattle.gb_laws.proofs.firmware.Running.{reached}
+use Rattle.gb_laws.proofs.firmware.Running.{AtNumber, Fetches, Fits, HasReply, HasSoFar, IsGood}
+use Rattle.gb_laws.proofs.firmware.Running.{QuietAt, Replied, reached}
 use Rattle.gb_laws.proofs.points.PointParts.{Hand}
 
 -- ---- requests
@@ -99,7 +98,7 @@ module _ (s after : State) (x : BusChange) (is : after.bus ≡ bus_after x s.bus
 
   -- no request comes there
   abbrev pub NoneCome : Type 0
-  NoneCome = (n : ℕ) → number_of x ≡ k → Brings x s.bus side.Ap (Ask n) → ⊥
+  NoneCome = (n : ℕ) → number_of x ≡ k → BringsTo x s.bus side.Ap (Ask n) → ⊥
 
   pub far-moved : (e : End) → AtNumber k s.bus.connections (λ c. c.peer ≡ e)
       → AtNumber k after.bus.connections (λ c. c.peer ≡ e)
@@ -134,7 +133,7 @@ module _ (s after : State) (x : BusChange) (is : after.bus ≡ bus_after x s.bus
   -- an answer waited, or comes
   pub reply-moved : (p : List ℕ) → HasReply k w p after.bus.connections
       → HasReply k w p s.bus.connections
-      ⊎ ((number_of x ≡ k) × Brings x s.bus side.Far (Reply w success p))
+      ⊎ ((number_of x ≡ k) × BringsTo x s.bus side.Far (Reply w success p))
   reply-moved p h =
       let o = before h.0 h.1 h.2 in
       ⊎_elim
@@ -181,7 +180,7 @@ module _ (s after : State) (x : BusChange) (is : after.bus ≡ bus_after x s.bus
     -- What is known of a download stays.
     pub fetches-moved : (old : List Connection) (hand next : Option Hand) (t : Trail)
         → t.connection ≡ k → Each (IsOnTrail s t) t.requests
-        → ((p : List ℕ) → number_of x ≡ k → Brings x s.bus side.Far (Reply w success p)
+        → ((p : List ℕ) → number_of x ≡ k → BringsTo x s.bus side.Far (Reply w success p)
         → QuietAt k s.bus × IsGood fits s k d.awaits d p)
         → ((h : Hand) → next ≡ Some h → h.side ≡ side.Ap → h.item ≡ Ask w → QuietAt k after.bus)
         → Fetches fits old hand s w t d → Fetches fits old next after w t d

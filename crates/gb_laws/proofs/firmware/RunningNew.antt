@@ -1,19 +1,18 @@
 -- What is known of a download whose next request is made.
-use Rattle.std.proofs.Common.{Bool, List, None, Option, Some, ap, append-nil, append_assoc}
-use Rattle.std.proofs.Common.{ap₂, arith, cond, false, inl, inr, refl, subst, sym, true, ℕ, ⊎_elim, [], ◌++◌, ◌+◌, ◌∙◌, ◌∷◌, ◌≡◌}
-use Rattle.std.proofs.Common.{◌≢◌, ◌≤◌, ◌⊎◌}
+use Rattle.std.proofs.Common.{Bool, List, None, Some, ap, append-nil, append_assoc, ap₂, arith}
+use Rattle.std.proofs.Common.{cond, false, inl, inr, refl, subst, sym, true, ℕ, ⊎_elim, [], ◌++◌}
+use Rattle.std.proofs.Common.{◌∙◌, ◌∷◌, ◌≡◌, ◌≢◌, ◌≤◌}
 use Rattle.std.proofs.lemmas.List.Folds.{find-append}
 use Rattle.std.specs.List.{find}
 use Rattle.std.specs.Option.{option_or}
 use Rattle.std.specs.Prelude.{option_map, ◌&&◌, ◌==◌}
-use Rattle.gb_base.specs.declared.end.{End.End, Side.Side}
 use Rattle.gb_base.specs.declared.end.End.TheVariants as end
 use Rattle.gb_base.specs.declared.end.Side.TheVariants as side
 use Rattle.gb_formats.specs.Loader.{Download}
 use Rattle.gb_formats.specs.Results.{success}
 use Rattle.gb_formats.specs.ValidEvents.{IsTag}
 use Rattle.gb_machine.proofs.Lists.{nth-within}
-use Rattle.gb_machine.specs.Bus.{Ask, Bus, Connection, Item, Reply, Request, next_number, queue}
+use Rattle.gb_machine.specs.Bus.{Ask, Bus, Connection, Item, Reply, Request, next_number}
 use Rattle.gb_machine.specs.Bus.{request_of}
 use Rattle.gb_machine.specs.LawsFirmware.{Follow, IsOnTrail, WasClean, range_of, ranges_of}
 use Rattle.gb_machine.specs.Lists.{behind_first, without}
@@ -24,17 +23,16 @@ use Rattle.gb_machine.specs.State.{Load, State, Trail}
 use Rattle.gb_invariants.proofs.Awaiting.{sent-new}
 use Rattle.gb_invariants.proofs.BusChanges.{BusChange, KeepsRequests, requests-after}
 use Rattle.gb_invariants.proofs.Found.{find-aside, find-changed, find-left, find-pushed, none-of}
-use Rattle.gb_invariants.proofs.Lists.{each-append, not-both}
+use Rattle.gb_invariants.proofs.Lists.{each-append}
 use Rattle.gb_invariants.proofs.Numbers.{same-connection}
 use Rattle.gb_invariants.proofs.Outcomes.{both-true, is-same, same-number}
-use Rattle.gb_invariants.specs.Facts.{BusFits, IsMadeOn, Loose}
-use Rattle.gb_laws.proofs.firmware.FirmwareQueues.{NoAsks, NoneBehind, OnlyAsk, Queued, behind-new}
-use Rattle.gb_laws.proofs.firmware.FirmwareQueues.{fewer, in-fewer, in-queued, lost, more, same}
+use Rattle.gb_invariants.specs.Facts.{BusFits, Loose}
+use Rattle.gb_laws.proofs.firmware.FirmwareQueues.{NoneBehind, OnlyAsk, Queued, behind-new, fewer}
+use Rattle.gb_laws.proofs.firmware.FirmwareQueues.{in-fewer, in-queued, lost, more, same}
 use Rattle.gb_laws.proofs.firmware.PiecesKnown.{follow-append}
-use Rattle.gb_laws.proofs.firmware.Running.{AsksFor, AtNumber, Fetches, Fits, HasReply, HasSoFar}
-use Rattle.gb_laws.proofs.firmware.Running.{IsFresh, IsGood, QuietAt, Replied, Running, reached}
-use Rattle.gb_laws.proofs.firmware.RunningMoved.{older, ranges-kept, reply-moved, trails-kept}
-use Rattle.gb_laws.proofs.points.PointParts.{Hand}
+use Rattle.gb_laws.proofs.firmware.Running.{AsksFor, AtNumber, Fits, HasSoFar, IsFresh, QuietAt}
+use Rattle.gb_laws.proofs.firmware.Running.{Replied, Running, reached}
+use Rattle.gb_laws.proofs.firmware.RunningMoved.{older, reply-moved, trails-kept}
 
 -- ---- trails
 
@@ -186,12 +184,15 @@ module _ (s t : State) (d : Draft) (label : ℕ) (is : t.bus ≡ sent d label s.
           trail = u;
           found = found;
           made = subst (Each (IsOnTrail t u)) (sym requests) (each-append (IsOnTrail t u) front
-              (n ∷ []) (trails-kept s t u u front stay refl trail) (record {
-            request = requested d label;
-            is = new;
-            connection = sym on;
-            side = far;
-          }, tt));
+              (n ∷ []) (trails-kept s t u u front stay refl trail) (
+                record {
+                  request = requested d label;
+                  is = new;
+                  connection = sym on;
+                  side = far;
+                },
+                tt,
+              ));
           request = requested d label;
           is = ap (λ j. request_of j t.bus) request ∙ new;
           connection = sym on;
@@ -211,8 +212,9 @@ module _ (s t : State) (d : Draft) (label : ℕ) (is : t.bus ≡ sent d label s.
                 (sym request) new-behind);
             has = subst (λ j. HasSoFar fit t l.request j e.awaits e) (sym on)
                 (subst (λ j. HasSoFar fit t j k e.awaits e) (sym request) h.2);
-            reply = λ p r. absurd (unanswered p (subst (λ j. Replied old.bus.connections t.bus k j p)
-                request (subst (λ j. Replied old.bus.connections t.bus j l.request p) on r)));
+            reply = λ p r. absurd (unanswered p (subst
+                (λ j. Replied old.bus.connections t.bus k j p) request
+                (subst (λ j. Replied old.bus.connections t.bus j l.request p) on r)));
             taken = λ x none at item. absurd cc;
           };
         }

@@ -1,12 +1,10 @@
 -- What is known of running downloads in a state at rest is known at the points of a moment, and the
 -- other way round.
-use Rattle.std.proofs.Common.{Bool, List, None, Option, Some, ap, arith, false, inl, inr, refl}
-use Rattle.std.proofs.Common.{length, subst, sym, true, ℕ, ⊎_elim, [], ◌++◌, ◌∙◌, ◌∷◌, ◌≡◌, ◌≤◌}
-use Rattle.std.proofs.Common.{ap₂, ◌⊎◌}
+use Rattle.std.proofs.Common.{Bool, List, None, Option, Some, ap, ap₂, arith, false, inl, inr}
+use Rattle.std.proofs.Common.{length, refl, subst, sym, true, ℕ, ◌∙◌, ◌≡◌}
 use Rattle.std.specs.Prelude.{option_map}
 use Rattle.gb_base.specs.declared.end.Side.TheVariants as side
 use Rattle.gb_formats.specs.Loader.{Awaits, Download, piece}
-use Rattle.gb_formats.specs.Results.{success}
 use Rattle.gb_machine.specs.Bus.{Ask, Connection, Item, Place, Raw, RawReply, Reply, Request, queue}
 use Rattle.gb_machine.specs.Bus.{request_of}
 use Rattle.gb_machine.specs.HostServing.{HostServed, host_serves}
@@ -20,19 +18,18 @@ use Rattle.gb_invariants.proofs.Awaiting.{none-some, same-some}
 use Rattle.gb_invariants.proofs.ItemChanges.{first-in}
 use Rattle.gb_invariants.proofs.Lists.{not-both}
 use Rattle.gb_invariants.specs.Facts.{BusFits, Loose, is_numbered}
-use Rattle.gb_laws.proofs.firmware.FirmwareOnward.{AreRemembered}
+use Rattle.gb_laws.proofs.firmware.FirmwareOnward.{UncleanAreKnown}
 use Rattle.gb_laws.proofs.firmware.ImageFacts.{AreShort, LentAs, image-short}
-use Rattle.gb_laws.proofs.firmware.Running.{AreRunning, AsksFor, AtNumber, Fetches, FitsAt, FoundIt}
-use Rattle.gb_laws.proofs.firmware.Running.{Free, HasPart, HasSoFar, IsGood, QuietAt, Replied}
-use Rattle.gb_laws.proofs.firmware.Running.{RunAt, Running}
-use Rattle.gb_laws.proofs.firmware.ServedImages.{fetch-images, fetch_bytes}
+use Rattle.gb_laws.proofs.firmware.Running.{AreRunning, AsksFor, Fetches, FitsAt, Free, HasPart}
+use Rattle.gb_laws.proofs.firmware.Running.{HasSoFar, IsGood, QuietAt, Replied, RunAt, Running}
+use Rattle.gb_laws.proofs.firmware.ServedImages.{fetch-images}
 use Rattle.gb_laws.proofs.points.Places.{place-is}
-use Rattle.gb_laws.proofs.points.PointParts.{Hand, IsServed}
+use Rattle.gb_laws.proofs.points.PointParts.{IsServed}
 
 -- ---- from a state at rest
 
 module _ (m : Moment) (before : List Loose) (fits : BusFits before m.before.bus)
-    (remembered : AreRemembered m.before) (short : AreShort m.before.host.images) where
+    (remembered : UncleanAreKnown m.before) (short : AreShort m.before.host.images) where
   -- what is served on a connection on which nothing was injected is a request that waits there
   record ServesAsk (k type : ℕ) (bytes : List ℕ) : Type 0 where
     connection : Connection

@@ -1,54 +1,48 @@
 -- What is known of a running download stays at each single change by which it doesn't go on.
 use Rattle.std.proofs.Common.{Bool, List, None, Option, Some, ap, ap₂, arith, cond, false, inl, inr}
-use Rattle.std.proofs.Common.{length, refl, subst, sym, true, ℕ, ⊎_elim, [], ◌++◌, ◌+◌, ◌-◌, ◌<◌}
-use Rattle.std.proofs.Common.{◌∙◌, ◌∷◌, ◌≡◌, ◌≤◌, ◌⊎◌}
+use Rattle.std.proofs.Common.{length, refl, subst, sym, true, ℕ, ⊎_elim, ◌∙◌, ◌≡◌, ◌≤◌, ◌⊎◌}
 use Rattle.std.specs.List.{find}
-use Rattle.std.specs.Prelude.{Err, IsTrue, Ok, Result, drop, min, option_and_then, option_map, replicate, take}
-use Rattle.std.proofs.lemmas.Bool.Decides.{nat_tests}
-use Rattle.gb_base.specs.Tag.{is_tag}
-use Rattle.gb_base.specs.declared.end.{End.End, Side.Side}
+use Rattle.std.specs.Prelude.{Err, Ok, Result, drop, option_and_then, option_map, take}
 use Rattle.gb_base.specs.declared.end.End.TheVariants as end
+use Rattle.gb_base.specs.declared.end.Side.{Side}
 use Rattle.gb_base.specs.declared.end.Side.TheVariants as side
-use Rattle.gb_base.specs.declared.event.Event.TheVariants as event
 use Rattle.gb_base.specs.declared.fault.RawFault.{RawFault}
-use Rattle.gb_formats.specs.Message.{Message}
-use Rattle.gb_formats.specs.Wire.{raw_message}
 use Rattle.gb_formats.specs.Images.{Image, Images, has_tag, image_of, lent_bytes, lent_tag}
-use Rattle.gb_formats.specs.Images.{with_loan}
 use Rattle.gb_formats.specs.Loader.{Awaits, Download, padded, piece}
+use Rattle.gb_formats.specs.Message.{Message}
 use Rattle.gb_formats.specs.Results.{success}
 use Rattle.gb_formats.specs.ValidEvents.{IsTag}
+use Rattle.gb_formats.specs.Wire.{raw_message}
 use Rattle.gb_machine.specs.Bus.{Ask, Bus, Connection, Item, Place, Raw, RawReply, Reply, Request}
-use Rattle.gb_machine.specs.Bus.{other_side, place_of, queue, request_of}
+use Rattle.gb_machine.specs.Bus.{other_side, queue, request_of}
 use Rattle.gb_machine.specs.Delivery.{without_front}
 use Rattle.gb_machine.specs.Host.{Host}
 use Rattle.gb_machine.specs.HostServing.{HostServed, host_serves}
 use Rattle.gb_machine.specs.Incoming.{Incoming, incoming, incoming_raw, is_request, raw_request}
 use Rattle.gb_machine.specs.Incoming.{reply_item, reply_to, request_in}
-use Rattle.gb_machine.specs.LawsFirmware.{IsOnTrail, WasClean}
-use Rattle.gb_machine.specs.Lists.{behind_first, first}
+use Rattle.gb_machine.specs.Lists.{first}
 use Rattle.gb_machine.specs.Loading.{is_trail_at}
-use Rattle.gb_machine.specs.Members.{Each, IsIn}
+use Rattle.gb_machine.specs.Members.{IsIn}
 use Rattle.gb_machine.specs.Runs.{Moment}
 use Rattle.gb_machine.specs.Serving.{Answer}
-use Rattle.gb_machine.specs.State.{Load, State, Trail}
+use Rattle.gb_machine.specs.State.{Load, State}
 use Rattle.gb_invariants.proofs.Awaiting.{none-some, same-some}
-use Rattle.gb_invariants.proofs.BusChanges.{BusChange, KeepsRequests, bus_after, number_of}
+use Rattle.gb_invariants.proofs.BusChanges.{KeepsRequests, number_of}
 use Rattle.gb_invariants.proofs.ItemChanges.{first-in}
 use Rattle.gb_invariants.proofs.Numbers.{in-changed, same-connection}
 use Rattle.gb_invariants.proofs.Selves.{far-no-ap}
 use Rattle.gb_invariants.specs.Facts.{IsMadeOn, IsOwn}
-use Rattle.gb_laws.proofs.firmware.FirmwareOnward.{Onward, TakenAt, unclean-kept}
-use Rattle.gb_laws.proofs.firmware.FirmwareQueues.{Brings, NoAsks, NoneBehind, front-none}
+use Rattle.gb_laws.proofs.firmware.FirmwareOnward.{Onward, TakenAt, one-place, unclean-kept}
+use Rattle.gb_laws.proofs.firmware.FirmwareQueues.{BringsTo, NoAsks, front-none}
 use Rattle.gb_laws.proofs.firmware.HostImages.{ImagesFrom, added, fewer, images-from, stepped}
-use Rattle.gb_laws.proofs.firmware.ImageFacts.{LentAs, fewer-as, given-stays, image-short, lent-none}
-use Rattle.gb_laws.proofs.firmware.ImageFacts.{lent-now, one-or_other}
+use Rattle.gb_laws.proofs.firmware.ImageFacts.{LentAs, fewer-as, given-stays, image-short}
+use Rattle.gb_laws.proofs.firmware.ImageFacts.{lent-none, lent-now, one-or_other}
 use Rattle.gb_laws.proofs.firmware.RecordsBack.{padded-length, padded-spells}
-use Rattle.gb_laws.proofs.firmware.Running.{AsksFor, AtNumber, Fetches, FitsAt, FoundIt, HasSoFar}
-use Rattle.gb_laws.proofs.firmware.Running.{IsGood, QuietAt, Running}
+use Rattle.gb_laws.proofs.firmware.Running.{AsksFor, Fetches, FitsAt, FoundIt, HasSoFar, IsGood}
+use Rattle.gb_laws.proofs.firmware.Running.{QuietAt, Running}
 use Rattle.gb_laws.proofs.firmware.RunningMoved.{far-moved, fetches-moved, keeps, quiet-moved}
 use Rattle.gb_laws.proofs.firmware.RunningMoved.{trails-kept}
-use Rattle.gb_laws.proofs.firmware.ServedImages.{FindAnswered, FetchedFrom, fetch-answered}
+use Rattle.gb_laws.proofs.firmware.ServedImages.{FetchedFrom, FindAnswered, fetch-answered}
 use Rattle.gb_laws.proofs.firmware.ServedImages.{fetch_bytes, find-answered}
 use Rattle.gb_laws.proofs.points.ChangeBuses.{bus-is, bus_change, keeps-requests}
 use Rattle.gb_laws.proofs.points.Places.{module-far, place-is}
@@ -151,17 +145,14 @@ served-hand : (m : Moment) (b : Bus) (h : Hand) (w : ℕ) (request : Request) (k
     (payload : List ℕ) → TakenAt m h → h.item ≡ Ask w → request_of w b ≡ Some request
     → KeepsRequests m.before.bus b → IsServed m k kind payload
     → (request.kind ≡ kind) × (request.payload ≡ payload)
-served-hand m b h w request k kind payload taken own made keeps served =
-    (ap (λ (q : Incoming). q.kind) is ∙ served.kind,
-    ap (λ (q : Incoming). q.payload) is ∙ served.payload)
+served-hand m b h w request k kind payload taken own made keeps served = (
+  ap (λ (q : Incoming). q.kind) is ∙ served.kind,
+  ap (λ (q : Incoming). q.payload) is ∙ served.payload,
+)
   where
-    same-at : (x y : End) → event.Deliver x ≡ event.Deliver y → x ≡ y
-    same-at x y e = cc
-
     place : taken.place ≡ served.place
-    place = same-some taken.place served.place (sym taken.named
-        ∙ ap (λ e. place_of e m.before.bus.connections) (same-at taken.at served.at
-        (sym taken.event ∙ served.event)) ∙ served.named)
+    place = one-place m taken.at served.at taken.place served.place taken.event served.event
+        taken.named served.named
 
     item : served.item ≡ Ask w
     item = same-some served.item (Ask w) (sym served.front
@@ -260,7 +251,7 @@ comes : (m : Moment) (a : Point) (x : Change m a) (l : Load) (d : Download) → 
     → (run : Running (FitsAt m) m.before.bus.connections a.hand a.state l d)
     → Fetches (FitsAt m) m.before.bus.connections a.hand a.state l.request run.trail d
     → (p : List ℕ) → number_of (bus_change x) ≡ run.trail.connection
-    → Brings (bus_change x) a.state.bus side.Far (Reply l.request success p)
+    → BringsTo (bus_change x) a.state.bus side.Far (Reply l.request success p)
     → QuietAt run.trail.connection a.state.bus
     × IsGood (FitsAt m) a.state run.trail.connection d.awaits d p
 comes m a (asks d' c label free live drawn who) l d on run f p at brings = absurd cc
@@ -300,7 +291,7 @@ comes m a _ l d on run f p at brings = absurd brings
 takes-quiet : (m : Moment) (a : Point) (x : Change m a) (l : Load) (d : Download) → Basis a
     → (run : Running (FitsAt m) m.before.bus.connections a.hand a.state l d)
     → ((n : ℕ) → number_of (bus_change x) ≡ run.trail.connection
-    → Brings (bus_change x) a.state.bus side.Ap (Ask n) → ⊥)
+    → BringsTo (bus_change x) a.state.bus side.Ap (Ask n) → ⊥)
     → run.trail.connection ≤ a.state.bus.made
     → Fetches (FitsAt m) m.before.bus.connections a.hand a.state l.request run.trail d
     → (h : Hand) → (changed m a x).hand ≡ Some h → h.side ≡ side.Ap → h.item ≡ Ask l.request
@@ -347,8 +338,8 @@ takes-quiet m a (takes at p item free start is named front) l d basis run none l
         (sym (w.3 ∙ ap (without_front p.side) (same-connection a.state.bus.connections w.0
         p.connection basis.bus.numbers.rise w.1 live w.2)))
         (quiet p.side side_is (front ∙ ap Some item_is))
-takes-quiet m a (takes_held i c place p y free start is at held) l d basis run none low f h e ap_side
-    own = let far = module-far i c p.side p.connection
+takes-quiet m a (takes_held i c place p y free start is at held) l d basis run none low f h e
+    ap_side own = let far = module-far i c p.side p.connection
     (place-is (end.Module i c) m.before.bus.connections p at).is in
     let same = same-some (record { connection = p.connection; side = p.side; item = y.item }) h e in
     absurd (far-no-ap (sym far ∙ ap (λ (z : Hand). z.side) same ∙ ap_side))
@@ -368,7 +359,7 @@ takes-quiet m a x l d basis run none low f h e ap_side own =
 pub run-moved : (m : Moment) (a : Point) (x : Change m a) (l : Load) (d : Download) → Basis a
     → Onward m a → (run : Running (FitsAt m) m.before.bus.connections a.hand a.state l d)
     → ((n : ℕ) → number_of (bus_change x) ≡ run.trail.connection
-    → Brings (bus_change x) a.state.bus side.Ap (Ask n) → ⊥)
+    → BringsTo (bus_change x) a.state.bus side.Ap (Ask n) → ⊥)
     → find (is_trail_at l.intf l.cport) (changed m a x).state.past.loading
     ≡ find (is_trail_at l.intf l.cport) a.state.past.loading
     → Running (FitsAt m) m.before.bus.connections (changed m a x).hand (changed m a x).state l d

@@ -1,24 +1,23 @@
 -- What the application processor answers to a firmware device.
-use Rattle.std.proofs.Common.{Bool, List, None, Option, Some, ap, arith, cond, false, inl, inr}
-use Rattle.std.proofs.Common.{length, refl, subst, sym, true, ℕ, ⊎_elim, [], ◌++◌, ◌+◌, ◌∙◌, ◌∷◌}
-use Rattle.std.proofs.Common.{◌≡◌, ◌≤◌, ◌⊎◌}
+use Rattle.std.proofs.Common.{Bool, List, None, Option, Some, ap, arith, cond, false, length, refl}
+use Rattle.std.proofs.Common.{subst, sym, true, ℕ, ◌++◌, ◌+◌, ◌∙◌, ◌∷◌, ◌≡◌, ◌≤◌}
 use Rattle.std.proofs.lemmas.Bool.Decides.{nat_tests}
-use Rattle.std.specs.Prelude.{Err, Ok, Result, drop, min, nat_lt, take, ◌==◌, ◌||◌}
+use Rattle.std.specs.Prelude.{Err, Ok, drop, min, nat_lt, take, ◌==◌, ◌||◌}
 use Rattle.byteorder.specs.Endian.{little_number}
 use Rattle.gb_base.specs.declared.peers.Link.{Link}
 use Rattle.gb_formats.specs.FirmwareRecords.{FirmwareAsk, FirmwareReply, read_firmware_ask}
-use Rattle.gb_formats.specs.Images.{Images, fetch_step, images_read, images_step, is_astray}
-use Rattle.gb_formats.specs.Images.{find_step, finds, free_id, image_of, lends, lent_bytes, replies}
+use Rattle.gb_formats.specs.Images.{Images, fetch_step, find_step, finds, free_id, image_of}
+use Rattle.gb_formats.specs.Images.{images_read, images_step, is_astray, lends, lent_bytes, replies}
 use Rattle.gb_formats.specs.Images.{tag_spelled, with_loan}
 use Rattle.gb_formats.specs.Records.{PayloadFault, le32, whole}
-use Rattle.gb_formats.specs.SvcRecords.{SvcAsk}
 use Rattle.gb_formats.specs.Results.{Step, fault_result, invalid, most_payload, refuses, success}
+use Rattle.gb_formats.specs.SvcRecords.{SvcAsk}
 use Rattle.gb_machine.specs.Host.{Host, link_of}
 use Rattle.gb_machine.specs.HostServing.{HostServed, host_refuses, host_serves, images_served}
 use Rattle.gb_machine.specs.HostServing.{notified_by, served_on, serves_firmware, serves_gpio}
 use Rattle.gb_machine.specs.HostServing.{serves_svc, serves_uart}
 use Rattle.gb_machine.specs.Serving.{protocol_bad}
-use Rattle.gb_invariants.proofs.Lists.{found-in, not-both}
+use Rattle.gb_invariants.proofs.Lists.{found-in}
 use Rattle.gb_invariants.proofs.Outcomes.{same-number}
 use Rattle.gb_laws.proofs.firmware.ImageFacts.{fetch-stays}
 use Rattle.gb_laws.proofs.firmware.RecordsBack.{fetch-back}

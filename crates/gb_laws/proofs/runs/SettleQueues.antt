@@ -95,7 +95,7 @@ first-of (q ∷ qs) at e = (q, inl refl, same-some q.at at e)
 
 -- ---- its place
 
-end-self : (e : End) → same_end e e ≡ true
+pub end-self : (e : End) → same_end e e ≡ true
 end-self (end.Ap a) = is-same a
 end-self end.Svc = refl
 end-self (end.Module i c) = ap (λ t. t && (c == c)) (is-same i) ∙ is-same c
