@@ -184,7 +184,7 @@ begins-kept m a one links before was basis on runs d c label free live drawn i p
         (changed m a (asks d c label free live drawn who)).state
         (record { intf = i; cport = p; request = next_number a.state.bus }) first) (sym free)
         (run-new a.state (changed m a (asks d c label free live drawn who)).state d label refl
-        (loose a) basis.bus before m.before was on.requests going.10.0 basis.bus.numbers.on
+        (loose a) basis.bus before m.before was on.requests going.10.0
         (subst (λ n. n ≤ a.state.bus.made) c_live.1 (each-in (IsMade a.state.bus)
         a.state.bus.connections c basis.bus.numbers.range c_live.0).1) (FitsAt m)
         (record { intf = i; cport = p; request = next_number a.state.bus }) first c
@@ -292,7 +292,7 @@ module _ (m : Moment) (a : Point) (rested : RunAt m.before) (remembered : Unclea
           let reply = h.reply f in
           let k = goes-known (FitsAt m) after (next_number a.state.bus) d.connection on.short
           (new-only a.state after d label refl (loose a) basis.bus before m.before was on.requests
-          going.3.0 basis.bus.numbers.on made
+          going.3.0 made
           (subst (λ n. QuietAt n a.state.bus) (sym number) reply.0))
           a.state h.last.request h.answered.download h.payload own went.download refl h.run.fresh
           (subst (λ n. HasSoFar (FitsAt m) a.state h.last.request n h.answered.download.awaits
@@ -310,7 +310,7 @@ module _ (m : Moment) (a : Point) (rested : RunAt m.before) (remembered : Unclea
       fresh = subst (λ hand. Running (FitsAt m) m.before.bus.connections hand after load
           went.download) (sym free)
           (run-new a.state after d label refl (loose a) basis.bus before m.before was on.requests
-          going.3.0 basis.bus.numbers.on made (FitsAt m) load went.download c trail
+          going.3.0 made (FitsAt m) load went.download c trail
           h.run.trail.requests (reached h.answered.download.awaits h.answered.download) refl
           c_live.0 c_live.1 going.1 (sym number) refl
           (longer-found i p (next_number a.state.bus) a.state.past.loading h.run.trail found)

@@ -108,7 +108,7 @@ behind-absent w (x ∷ xs) none =
 module _ (s t : State) (d : Draft) (label : ℕ) (is : t.bus ≡ sent d label s.bus)
     (loose : List Loose) (fits : BusFits loose s.bus) (before : List Loose) (old : State)
     (was : BusFits before old.bus) (onward : KeepsRequests old.bus s.bus) (far : d.side ≡ side.Far)
-    (low : (n : ℕ) (r : Request) → request_of n s.bus ≡ Some r → r.connection ≤ s.bus.made) where
+    where
   abbrev n : ℕ
   n = next_number s.bus
 
