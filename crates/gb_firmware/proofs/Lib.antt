@@ -1,3 +1,2 @@
 pub mod Bridged
-pub mod Free
 pub mod Lent

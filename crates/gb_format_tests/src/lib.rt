@@ -11,6 +11,8 @@ mod bridge_payload;
 #[cfg(test)]
 mod checks;
 #[cfg(test)]
+mod firmware;
+#[cfg(test)]
 mod gpio;
 #[cfg(test)]
 mod i2c;

@@ -1,4 +1,5 @@
 pub mod Ascii
+pub mod FirstFree
 pub mod JudgedValid
 pub mod MadeValid
 pub mod SaidValid

@@ -1,5 +1,5 @@
--- Records of the Firmware Download protocol (Greybus Specification, "Firmware Download Protocol"; in
--- Linux's greybus_protocols.h `GB_FW_DOWNLOAD_TYPE_..`). A module makes the requests.
+-- Records of the Firmware Download protocol (Greybus Specification, "Firmware Download Protocol";
+-- in Linux's greybus_protocols.h `GB_FW_DOWNLOAD_TYPE_..`). A module makes the requests.
 use Rattle.std.specs.Prelude.{ℕ, ◌==◌, if◌then◌else◌, Result, Ok, List, [], ◌∷◌, ◌++◌}
 use Rattle.gb_formats.specs.Records.{le32, PayloadFault, Row, row0, row1, row2, row3, u8, u32}
 use Rattle.gb_formats.specs.Records.{whole, read_table}

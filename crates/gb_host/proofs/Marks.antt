@@ -6,7 +6,8 @@ use Rattle.std.proofs.lemmas.Bool.Decides.{nat_tests}
 use Rattle.std.proofs.lemmas.List.{get_or-replicate, length-replicate}
 use Rattle.std.specs.List.{list_any}
 use Rattle.gb_base.specs.declared.peers.Link.{Link}
-use Rattle.gb_host.proofs.Free.{free-here, free-none, free-past}
+use Rattle.gb_formats.proofs.FirstFree.{free-here, free-none}
+use Rattle.gb_host.proofs.Free.{free-past}
 use Rattle.gb_host.specs.Marks.{Marks}
 use Rattle.gb_host.specs.declared.cports.Cports.{Cports}
 use Rattle.gb_machine.specs.Lists.{at_first, first_free}

@@ -237,8 +237,8 @@ module _ (x : Notice) (before : Host) (law : TurnLaw (at_notice x before)) where
       by (Some l) found =
           law.over (closes i c l) before _ found why
           (asked (at_notice x before) law (purpose i c steps.TellDisconnecting)
-          (with_link i c (in_state state.Closing) (with_freed l.connection before)) (ask l found) refl
-          no-enumeration)
+          (with_link i c (in_state state.Closing) (with_freed l.connection before)) (ask l found)
+          refl no-enumeration)
 
   draining : (i c : ℕ) → law.says before (host_drains i c before)
   draining i c = by (link_at i c before) refl

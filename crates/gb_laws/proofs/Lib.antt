@@ -3,6 +3,7 @@ pub mod creations
 pub mod credits
 pub mod ends
 pub mod enumerations
+pub mod firmware
 pub mod identifiers
 pub mod links
 pub mod marks

@@ -28,6 +28,7 @@ ghost use Rattle.gb_machine.specs.LawsEnds.{
   EndsAtMostOnce,
   EveryEndHasItsCause,
 };
+ghost use Rattle.gb_machine.specs.LawsFirmware.{FetchedIsTheImage, KeptIsTheImage};
 ghost use Rattle.gb_machine.specs.LawsHotPlug.{
   AbsentAfterRemoval,
   NoForeignMessage,
@@ -270,6 +271,19 @@ pub fn names_name_requests()
 /// came back on it, and never above 4,096.
 pub fn credits_add_up()
     ensures { CreditsAddUp }
+{}
+
+/// What a firmware device keeps came by the last download at its CPort that was done. Where nothing
+/// was ever injected on the connection of that, the ranges of its requests follow one another from
+/// 0 to the image's size, and it is the image that was given under its tag.
+pub fn kept_is_the_image()
+    ensures { KeptIsTheImage }
+{}
+
+/// A FETCH of a firmware device that is answered with success asks for bytes within the image that
+/// is lent under its id, and is answered with these.
+pub fn fetched_is_the_image()
+    ensures { FetchedIsTheImage }
 {}
 
 /// The counts of a summary add up to the number of requests.

@@ -1,5 +1,5 @@
--- The actions of firmware downloads: one begins, and at each end of the request that it waits for it
--- makes the next one, is done or fails.
+-- The actions of firmware downloads: one begins, and at each end of the request that it waits for
+-- it makes the next one, is done or fails.
 use Rattle.std.specs.Prelude.{ℕ, ◌==◌, Bool, ◌&&◌, Option, Some, None, List, [], ◌∷◌, ◌++◌, find}
 use Rattle.std.specs.List.{filter}
 use Rattle.gb_base.specs.declared.download.Next.{Next}

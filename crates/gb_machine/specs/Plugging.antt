@@ -1,6 +1,6 @@
 -- The actions of starting the supervisory controller, and of plugging and pulling modules.
-use Rattle.std.specs.Prelude.{ℕ, ◌+◌, ◌==◌, true, if◌then◌else◌, is_some, List, [], ◌∷◌, ◌++◌, length}
-use Rattle.std.specs.Prelude.{map}
+use Rattle.std.specs.Prelude.{ℕ, ◌+◌, ◌==◌, true, if◌then◌else◌, is_some, List, [], ◌∷◌, ◌++◌}
+use Rattle.std.specs.Prelude.{length, map}
 use Rattle.std.specs.List.{filter}
 use Rattle.gb_formats.specs.Module.{Module}
 use Rattle.gb_formats.specs.SvcRecords.{SvcAsk}

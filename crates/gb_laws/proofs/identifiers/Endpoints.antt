@@ -6,14 +6,14 @@ use Rattle.gb_machine.specs.Bus.{Bus, Connection, same_end}
 use Rattle.gb_machine.specs.Members.{Each, EachTwo, IsIn}
 use Rattle.gb_machine.specs.Turns.{Act, Asking, Making}
 use Rattle.gb_machine.specs.{Host.Host, LawsBus.AreApart, LawsBus.HaveOwnEnds, Runs.Moment}
-use Rattle.gb_machine.specs.{State.State, Wiring.new_connection, Wiring.next_connection}
+use Rattle.gb_machine.specs.{State.State, State.first_state, Wiring.new_connection, Wiring.next_connection}
 use Rattle.gb_invariants.proofs.{Awaiting.same-some, BusChanges.apart-after, BusChanges.made_by}
 use Rattle.gb_invariants.proofs.{Lists.each-from, Lists.each-in}
 use Rattle.gb_invariants.specs.Facts.{IsMade}
 use Rattle.gb_laws.proofs.links.LinkRuns.{LinkedTo, linked-over, linked-throughout, start-absent}
 use Rattle.gb_laws.proofs.links.Links.{ArePending, IsFree, IsKnown, leaving, linked, supervisory}
 use Rattle.gb_laws.proofs.points.Points.{Change, Law, acts_opened, changed, upon}
-use Rattle.gb_laws.proofs.runs.Runs.{HoldsByMoments, throughout, weaker}
+use Rattle.gb_laws.proofs.runs.Runs.{HoldsByMoments, Keeps, throughout, weaker}
 use Rattle.gb_laws.proofs.{points.ChangeBuses.bus_change, points.ChangeBuses.by-bus}
 use Rattle.gb_laws.proofs.{links.LinkFrom.Linked}
 use Rattle.gb_laws.proofs.{links.LinkKept.InsertsAbsent, links.LinkKept.LinkedAt}
@@ -72,13 +72,20 @@ pub record ApartTo (told : List Entry) (s : State) : Type 0 where
   pub links : LinkedTo told s
   pub apart : EachTwo AreApart s.bus.connections
 
+-- a moment keeps it
+pub apart-over : Keeps ApartTo
+apart-over m one h = record {
+  links = linked-over m one h.links;
+  apart = (over-step m (apart_law m (start-absent m h.links)) one
+      ((h.links.0, h.links.1), h.apart)).1.1;
+}
+
+-- and so it holds throughout
+pub apart-first : ApartTo [] first_state
+apart-first = record { links = linked-throughout [] tt; apart = (tt, tt) }
+
 pub apart-throughout : HoldsByMoments ApartTo
-apart-throughout = throughout ApartTo (record { links = linked-throughout [] tt; apart = (tt, tt) })
-    (λ m one h. record {
-      links = linked-over m one h.links;
-      apart = (over-step m (apart_law m (start-absent m h.links)) one
-          ((h.links.0, h.links.1), h.apart)).1.1;
-    })
+apart-throughout = throughout ApartTo apart-first apart-over
 
 -- Live connections have ends of their own.
 pub endpoints-by_moments : HoldsByMoments HaveOwnEnds

@@ -11,6 +11,8 @@ use Rattle.gb_laws.proofs.together.EveryRun.{nothing-left, nothing-wired, one-it
 use Rattle.gb_laws.proofs.together.EveryRun.{opening-told}
 use Rattle.gb_laws.proofs.together.EveryRun.{quiet-removal, replies-are_awaited, stale-unrouted}
 use Rattle.gb_laws.proofs.together.EveryRun.{then-restarts, wired-at_most_once, wired-routed}
+use Rattle.gb_laws.proofs.firmware.Fetched.{fetched-is_the_image}
+use Rattle.gb_laws.proofs.firmware.KeptRuns.{kept-is_the_image}
 use Rattle.gb_laws.proofs.runs.Settling.{settles-are_deliveries}
 use Rattle.gb_laws.proofs.identifiers.Single.{counts-add-up}
 
@@ -26,6 +28,8 @@ laws-together = record {
   own = no-foreign;
   wired = wired-at_most_once;
   credits = credits-add_up;
+  kept = kept-is_the_image;
+  fetched = fetched-is_the_image;
   counts = counts-add-up;
 }
 

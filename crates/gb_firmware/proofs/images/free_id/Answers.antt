@@ -2,7 +2,7 @@
 use Rattle.std.proofs.Common.{◌-◌, ◌+◌, sym, arith, rules, ◌∙◌, refl}
 use Rattle.std.specs.List.{list_any}
 use Rattle.gb_formats.specs.Images.{is_loan}
-use Rattle.gb_firmware.proofs.Free.{free-here, free-next, free-none}
+use Rattle.gb_formats.proofs.FirstFree.{free-here, free-next, free-none}
 use Rattle.gb_firmware.proofs.images.free_id.Goals as goal
 
 pub loop-id-init : goal.loop-id-init

@@ -2,7 +2,7 @@
 use Rattle.std.proofs.Common.{◌≡◌, ◌+◌, ◌-◌, suc, true, false, sym, ◌∙◌, arith}
 use Rattle.std.specs.List.{list_any}
 use Rattle.gb_machine.specs.Host.{has_device_id}
-use Rattle.gb_host.proofs.Free.{free-here, free-next, free-none}
+use Rattle.gb_formats.proofs.FirstFree.{free-here, free-next, free-none}
 use Rattle.gb_host.proofs.interfaces.Interfaces.free_device.Goals as goal
 
 pub returns-then-not-has_device : goal.returns-then-not-has_device

@@ -1,0 +1,129 @@
+-- What a firmware device keeps is the image that was given, in every state of every run.
+use Rattle.std.proofs.Common.{List, None, Some, ap, false, inl, inr, refl, ℕ, [], ◌++◌}
+use Rattle.std.proofs.Common.{◌∷◌, ◌≡◌}
+use Rattle.gb_base.specs.declared.entry.Entry.{Entry}
+use Rattle.gb_machine.specs.Bus.{Connection}
+use Rattle.gb_machine.specs.LawsBus.{AreApart}
+use Rattle.gb_machine.specs.LawsFirmware.{AreLoaded, KeptIsTheImage}
+use Rattle.gb_machine.specs.Members.{EachTwo, IsIn}
+use Rattle.gb_machine.specs.Runs.{IsMoment, Moment, after, told_at}
+use Rattle.gb_machine.specs.State.{State, first_state}
+use Rattle.gb_invariants.proofs.Awaiting.{none-some}
+use Rattle.gb_invariants.proofs.Lists.{not-both}
+use Rattle.gb_laws.proofs.basis.Basics.{basis}
+use Rattle.gb_laws.proofs.firmware.FirmwareOnward.{AreRemembered, Onward, onward-kept}
+use Rattle.gb_laws.proofs.firmware.ImageFacts.{AreShort}
+use Rattle.gb_laws.proofs.firmware.KeptImages.{KeptAt, aside-loaded, begins-loaded}
+use Rattle.gb_laws.proofs.firmware.KeptImages.{continues-loaded, finishes-loaded, others-loaded}
+use Rattle.gb_laws.proofs.firmware.KeptImages.{unloads-loaded}
+use Rattle.gb_laws.proofs.firmware.Running.{RunAt, RunIn}
+use Rattle.gb_laws.proofs.firmware.RunningGoes.{begins-kept, continues-kept, finishes-kept}
+use Rattle.gb_laws.proofs.firmware.RunningKept.{aside-kept, others-kept, unloads-kept}
+use Rattle.gb_laws.proofs.firmware.RunningRests.{runs-end, runs-start}
+use Rattle.gb_laws.proofs.identifiers.Endpoints.{ApartTo, apart-first, apart-over}
+use Rattle.gb_laws.proofs.points.PointParts.{Basis, Point, resting}
+use Rattle.gb_laws.proofs.points.Points.{Change, Law, asks, begins, by_loader, changed, continues}
+use Rattle.gb_laws.proofs.points.Points.{finishes, others, unloads, upon}
+use Rattle.gb_laws.proofs.runs.AllRuns.{of-all, of-untold}
+use Rattle.gb_laws.proofs.runs.Runs.{HoldsByMoments, Keeps, throughout, weaker}
+use Rattle.gb_laws.proofs.steps.Steps.{over-step}
+
+-- What holds of firmware devices in a state at rest.
+pub record DownloadsTo (told : List Entry) (s : State) : Type 0 where
+  pub apart : ApartTo told s
+  pub remembered : AreRemembered s
+  pub short : AreShort s.host.images
+  pub runs : RunAt s
+  pub kept : KeptAt s
+
+module _ (m : Moment) (one : IsMoment m.event) (start : DownloadsTo m.told m.before) where
+  -- ---- each single change
+
+  -- what is known of downloads and of what is kept
+  abbrev DownloadsAt : Point → Type 0
+  DownloadsAt a = RunIn m a × KeptAt a.state
+
+  abbrev ends : EachTwo AreApart m.before.bus.connections
+  ends = start.apart.apart
+
+  downloads-kept : (a : Point) (x : Change m a) → Basis a → Onward m a → DownloadsAt a
+      → DownloadsAt (changed m a x)
+  downloads-kept a (asks d c label free live drawn (by_loader (begins i p x) going far wired)) b on
+      h = (
+        begins-kept m a one start.apart.links.1 _ start.apart.links.0.bus b on h.0 d c label free
+            live drawn i p x going far wired,
+        begins-loaded m a d c label free live drawn i p x going far wired h.1,
+      )
+  downloads-kept a (asks d c label free live drawn (by_loader (continues i p x) going far wired)) b
+      on h = (
+        continues-kept m a start.runs start.remembered ends _ start.apart.links.0.bus b on h.0 d c
+            label free live drawn i p x going far wired,
+        continues-loaded m a start.runs start.remembered ends on h.0 d c label free live drawn i p x
+            going far wired h.1,
+      )
+  downloads-kept a (finishes i p x tag size idle hears) b on h = (
+    finishes-kept m a start.runs start.remembered ends _ start.apart.links.0.bus b on h.0 i p x tag
+        size idle hears,
+    finishes-loaded m a start.runs start.remembered ends on h.0 i p x tag size idle hears h.1,
+  )
+  downloads-kept a (unloads i of gone) b on h =
+      (unloads-kept m a i of gone b on h.0, unloads-loaded m a i of gone h.1)
+  downloads-kept a (others booted marks ports modules same) b on h = (
+    others-kept m a booted marks ports modules same b on h.0,
+    others-loaded m a booted marks ports modules same h.1,
+  )
+  downloads-kept a x b on h = (aside-kept m a x tt b on h.0, aside-loaded m a x tt h.1)
+
+  -- ---- a moment
+
+  abbrev onward_law : Law m
+  onward_law = upon (basis m) (Onward m) (λ a x g h. onward-kept m a x one h)
+
+  abbrev downloads_law : Law m
+  downloads_law = upon onward_law DownloadsAt (λ a x g h. downloads-kept a x g.0 g.1 h)
+
+  first-point : Onward m (resting m.told m.before)
+  first-point = record {
+    taken = λ h e ap_side. absurd (none-some e);
+    requests = λ n r e. e;
+    unclean = λ n i. i;
+    wired = λ n d live on. (d, live, record { number = refl; ap = refl; peer = refl }, on);
+    svc = λ e. absurd cc;
+    remembered = start.remembered;
+    short = start.short;
+  }
+
+  pub downloads-over : DownloadsTo (m.told ++ told_at m) (after m)
+  downloads-over =
+      let r = over-step m downloads_law one ((start.apart.links.0, first-point), (
+        runs-start m _ start.apart.links.0.bus start.remembered start.short start.runs,
+        start.kept,
+      )) in record {
+        apart = apart-over m one start.apart;
+        remembered = r.1.0.1.remembered;
+        short = r.1.0.1.short;
+        runs = runs-end _ m.before.bus.connections (after m) r.1.1.0;
+        kept = r.1.1.1;
+      }
+
+-- ---- throughout
+
+downloads-throughout : HoldsByMoments DownloadsTo
+downloads-throughout = throughout DownloadsTo (record {
+  apart = apart-first;
+  remembered = λ c live dirty. clean c live dirty;
+  short = λ i j. absurd j;
+  runs = λ l i r at d ran. absurd i;
+  kept = λ i c image e. absurd cc;
+}) (λ m one h. downloads-over m one h)
+  where
+    clean : (c : Connection) → IsIn c first_state.bus.connections → c.clean ≡ false
+        → IsIn c.number first_state.past.unclean
+    clean c (inl e) dirty =
+        absurd (not-both c.clean (ap (λ (x : Connection). x.clean) e) dirty)
+    clean c (inr i) dirty = absurd i
+
+-- What a firmware device keeps is the image that was given.
+pub kept-is_the_image : KeptIsTheImage
+kept-is_the_image = of-all AreLoaded (of-untold AreLoaded (λ told more s h. h))
+    (weaker DownloadsTo AreLoaded (λ told s h. h.kept) downloads-throughout)
