@@ -2,7 +2,7 @@
 
 use crate::checks::{Row, is_answered};
 use gb_base::{Next, Outcome, Served, Tag};
-use gb_firmware::{Images, LoadFault, Loader};
+use gb_firmware::{Images, Loader};
 use std::process::Abort;
 
 /// A request: its type and payload.
@@ -36,9 +36,7 @@ fn follows(rt: &impl Abort, images: &mut Images, loader: &mut Loader, ask: Ask<'
         payload,
         asks: _,
     } = served;
-    let Err(LoadFault::Running) = loader.begin(&boot(rt)) else {
-        panic!(rt; "no download runs")
-    };
+    assert!(rt; loader.is_running());
     let outcome = Outcome::Answered {
         result: code,
         payload,

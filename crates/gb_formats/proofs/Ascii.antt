@@ -36,7 +36,7 @@ use Rattle.gb_formats.specs.Reasons.{reason_text, refusal_text}
 use Rattle.gb_formats.specs.ShowTexts.{connection_line, device_text, interface_line, name_line}
 use Rattle.gb_formats.specs.ShowTexts.{now_line, queue_line, requester_text, standing_text}
 use Rattle.gb_formats.specs.ShowTexts.{unclean_text}
-use Rattle.gb_formats.specs.Texts.{answer_text, bad_line, bad_text, download_text, dropped_text}
+use Rattle.gb_formats.specs.Texts.{IsWordOf, answer_text, bad_line, bad_text, download_text, dropped_text}
 use Rattle.gb_formats.specs.Texts.{end_text, ended}
 use Rattle.gb_formats.specs.Texts.{entry_line, entry_text, item_text, lost_text, outcome_text}
 use Rattle.gb_formats.specs.Texts.{raw_fault_text, reading_text, refusal_line_text, size_text}
@@ -212,12 +212,6 @@ bad_is (bad.MissingWord at) = dec at
 bad_is (bad.ExtraWord at) = dec at
 
 -- lines
-
--- an entry has a text that isn't made of its numbers: a line of `show`, or the tag of an image
-abbrev pub IsWordOf : List ℕ → Entry → Type 0
-IsWordOf text (entry.Shown line) = line ≡ text
-IsWordOf text (entry.Download i c tag size) = tag ≡ text
-IsWordOf text _ = ⊥
 
 download : (size : Option ℕ) → is_ascii (download_text size) ≡ true
 download (Some n) = dec n

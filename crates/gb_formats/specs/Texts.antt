@@ -1,6 +1,6 @@
 -- The texts of the report, one line for each entry.
-use Rattle.std.specs.Prelude.{ℕ, Bool, if◌then◌else◌, Option, Some, None, List, [], ◌∷◌, ◌++◌, ◌==◌}
-use Rattle.std.specs.Prelude.{codes}
+use Rattle.std.specs.Prelude.{◌≡◌, ℕ, Bool, if◌then◌else◌, Option, Some, None, List, [], ◌∷◌, ◌++◌}
+use Rattle.std.specs.Prelude.{◌==◌, codes}
 use Rattle.std.specs.Fmt.{decimal}
 use Rattle.gb_base.specs.declared.bridge.Reading.{Reading}
 use Rattle.gb_base.specs.declared.bridge.Reading.TheVariants as reading
@@ -172,6 +172,12 @@ ended line = line ++ 10 ∷ []
 -- what the report has for an entry
 abbrev pub entry_text : ℕ → Bool → Entry → List ℕ
 entry_text line hex e = ended (entry_line line hex e)
+
+-- A text that an entry has as it is: a line of `show`, or the tag of an image.
+abbrev pub IsWordOf : List ℕ → Entry → Type 0
+IsWordOf text (entry.Shown line) = line ≡ text
+IsWordOf text (entry.Download i c tag size) = tag ≡ text
+IsWordOf text _ = ⊥
 
 -- what the report has for several entries
 abbrev pub entries_text : ℕ → Bool → List Entry → List ℕ

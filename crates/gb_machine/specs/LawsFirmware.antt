@@ -1,6 +1,6 @@
 -- Laws of runs: the image that a firmware device keeps is the image that was given.
-use Rattle.std.specs.Prelude.{◌≡◌, ◌≤◌, ℕ, ◌+◌, Option, Some, None, option_and_then, Result, Ok}
-use Rattle.std.specs.Prelude.{List, [], ◌∷◌, ◌++◌, length, take, drop, find}
+use Rattle.std.specs.Prelude.{◌≡◌, ◌≤◌, ℕ, ◌+◌, Bool, Option, Some, None, option_and_then, Result}
+use Rattle.std.specs.Prelude.{Ok, List, [], ◌∷◌, ◌++◌, length, take, drop, find}
 use Rattle.gb_base.specs.declared.end.End.{End}
 use Rattle.gb_base.specs.declared.end.End.TheVariants as end
 use Rattle.gb_base.specs.declared.end.Side.TheVariants as side
@@ -50,12 +50,22 @@ abbrev pub Follow : ℕ → List (ℕ × ℕ) → ℕ → Type 0
 Follow at [] to = at ≡ to
 Follow at (r ∷ rs) to = (r.0 ≡ at) × (1 ≤ r.1) × Follow (at + r.1) rs to
 
--- Request n was made on a trail's connection, by its far side.
-pub record IsOnTrail (s : State) (t : Trail) (n : ℕ) : Type 0 where
+-- It was told that an end made request n.
+pub record WasAsked (told : List Entry) (n : ℕ) (from : End) : Type 0 where
+  pub to : End
+  pub kind : ℕ
+  pub size : ℕ
+  pub bytes : List ℕ
+  pub lost : Bool
+  pub said : IsIn (entry.Asked n from to kind size bytes lost) told
+
+-- Request n was made by the CPort of a trail, on the trail's connection.
+pub record IsOnTrail (told : List Entry) (s : State) (t : Trail) (n : ℕ) : Type 0 where
   pub request : Request
   pub is : request_of n s.bus ≡ Some request
   pub connection : request.connection ≡ t.connection
   pub side : request.side ≡ side.Far
+  pub asked : WasAsked told n (end.Module t.intf t.cport)
 
 -- No bytes were ever injected on connection k.
 abbrev pub WasClean : ℕ → State → Type 0
@@ -64,10 +74,10 @@ WasClean k s = IsIn k s.past.unclean → ⊥
 -- An image came by the requests of the last download at its CPort that was done. Where nothing was
 -- ever injected on their connection, the ranges that they ask for follow one another from 0 to the
 -- image's size, and it is the image that was given under its tag.
-pub record IsLoaded (s : State) (i c : ℕ) (image : Image) : Type 0 where
+pub record IsLoaded (told : List Entry) (s : State) (i c : ℕ) (image : Image) : Type 0 where
   pub trail : Trail
   pub is : find (is_trail_at i c) s.past.loaded ≡ Some trail
-  pub made : Each (IsOnTrail s trail) trail.requests
+  pub made : Each (IsOnTrail told s trail) trail.requests
   pub ranges : WasClean trail.connection s
       → Follow 0 (ranges_of trail.requests s.bus) (length image.bytes)
   pub given : WasClean trail.connection s
@@ -75,7 +85,8 @@ pub record IsLoaded (s : State) (i c : ℕ) (image : Image) : Type 0 where
 
 -- each image that is kept came so
 abbrev pub AreLoaded : List Entry → State → Type 0
-AreLoaded told s = (i c : ℕ) (image : Image) → kept i c s ≡ Some image → IsLoaded s i c image
+AreLoaded told s =
+    (i c : ℕ) (image : Image) → kept i c s ≡ Some image → IsLoaded told s i c image
 
 -- What a firmware device keeps is the image that was given, in every state of every run.
 abbrev pub KeptIsTheImage : Type 0

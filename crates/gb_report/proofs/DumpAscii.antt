@@ -15,8 +15,8 @@ use Rattle.gb_formats.specs.Dump.{refused_text, stands_as_is, string_byte_text, 
 use Rattle.gb_formats.specs.Manifest.{Manifest}
 use Rattle.gb_formats.specs.ManifestRules.{Refused}
 use Rattle.gb_formats.specs.Reasons.{reason_text}
-use Rattle.gb_formats.specs.Texts.{ended, entry_line, entry_text}
-use Rattle.gb_formats.proofs.Ascii.{IsAscii-entry_text, IsWordOf}
+use Rattle.gb_formats.specs.Texts.{IsWordOf, ended, entry_line, entry_text}
+use Rattle.gb_formats.proofs.Ascii.{IsAscii-entry_text}
 
 abbrev pub is_ascii : List ℕ → Bool
 is_ascii bs = list_all (λ b. nat_lt b 128) bs

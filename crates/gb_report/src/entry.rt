@@ -2,8 +2,7 @@
 
 ghost use Rattle.std.specs.Prelude.{◌≡◌, ◌++◌, ℕ, Bool, true, List, OnOk, IsAscii};
 ghost use Rattle.std.specs.String.{string_bytes};
-ghost use Rattle.gb_formats.proofs.Ascii.{IsWordOf};
-ghost use Rattle.gb_formats.specs.Texts.{entry_line};
+ghost use Rattle.gb_formats.specs.Texts.{IsWordOf, entry_line};
 ghost use Rattle.gb_base.specs.Groups.{is_device, is_link, is_message, is_raw, is_request};
 
 use crate::digits::{Digits, Hex};

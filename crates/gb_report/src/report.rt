@@ -2,8 +2,7 @@
 
 ghost use Rattle.std.specs.Prelude.{◌≡◌, ◌++◌, ℕ, List, IsAscii, OnOk, OnErr};
 ghost use Rattle.std.specs.String.{string_bytes};
-ghost use Rattle.gb_formats.proofs.Ascii.{IsWordOf};
-ghost use Rattle.gb_formats.specs.Texts.{entries_text, entry_text, refusal_line_text};
+ghost use Rattle.gb_formats.specs.Texts.{IsWordOf, entries_text, entry_text, refusal_line_text};
 
 use crate::entry::append_entry;
 use crate::lines::{empty_line, end_line};
