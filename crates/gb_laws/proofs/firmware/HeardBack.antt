@@ -64,7 +64,8 @@ pub record Heard (m : Moment) (a : Point) (i c : ℕ) (x : Module) (what : Next)
       (with_module i x a.state.modules)
   pub payload : List ℕ
   pub answered : Answered payload before loaded
-  pub run : Running (FitsAt m) m.before.bus.connections a.hand a.state last answered.download
+  pub run : Running (FitsAt m) m.before.bus.connections a.hand a.told a.state last
+      answered.download
   pub reply : WasClean run.trail.connection a.state
       → QuietAt run.trail.connection a.state.bus
       × IsGood (FitsAt m) a.state run.trail.connection answered.download.awaits answered.download
@@ -72,7 +73,8 @@ pub record Heard (m : Moment) (a : Point) (i c : ℕ) (x : Module) (what : Next)
   pub live : (d : Connection) → IsIn d a.state.bus.connections → d.wired ≡ true
       → d.peer ≡ end.Module i c → d.number ≡ run.trail.connection
 
-module _ (m : Moment) (a : Point) (rested : RunAt m.before) (remembered : UncleanAreKnown m.before)
+module _ (m : Moment) (a : Point) (rested : RunAt m.told m.before)
+    (remembered : UncleanAreKnown m.before)
     (apart : EachTwo AreApart m.before.bus.connections) (on : Onward m a) (runs : RunIn m a) where
   pub heard : (i c : ℕ) (x : Module) (what : Next) → HearsBack m a.state i c x what
       → Heard m a i c x what
@@ -116,10 +118,10 @@ module _ (m : Moment) (a : Point) (rested : RunAt m.before) (remembered : Unclea
       at = subst (λ j. loader_in j h.last.cport a.state.modules ≡ Some ends.before) (sym h.intf)
           (subst (λ d. loader_in i d a.state.modules ≡ Some ends.before) (sym h.cport) changes.was)
 
-      run : Running (FitsAt m) m.before.bus.connections a.hand a.state h.last said.download
+      run : Running (FitsAt m) m.before.bus.connections a.hand a.told a.state h.last said.download
       run = runs h.last inside ends.before at said.download said.ran
 
-      rest : Running Free m.before.bus.connections None m.before h.last said.download
+      rest : Running Free m.before.bus.connections None m.told m.before h.last said.download
       rest = rested h.last (subst (λ ls. IsIn h.last ls) h.loads inside) ends.before
           (subst (λ ms. loader_in h.last.intf h.last.cport ms ≡ Some ends.before) h.modules at)
           said.download said.ran

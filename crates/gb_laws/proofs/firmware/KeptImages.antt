@@ -6,6 +6,7 @@ use Rattle.std.specs.List.{filter, find}
 use Rattle.std.specs.Option.{option_or}
 use Rattle.std.specs.Prelude.{option_and_then, ◌==◌}
 use Rattle.gb_base.specs.declared.download.Next.TheVariants as next
+use Rattle.gb_base.specs.declared.entry.Entry.{Entry}
 use Rattle.gb_formats.specs.Images.{Image}
 use Rattle.gb_formats.specs.Loader.{Loader, loader_begun}
 use Rattle.gb_formats.specs.Module.{Module}
@@ -34,6 +35,7 @@ use Rattle.gb_laws.proofs.firmware.RunningKept.{IsAside, one-or_apart, same-down
 use Rattle.gb_laws.proofs.firmware.RunningMoved.{ranges-kept, trails-kept}
 use Rattle.gb_laws.proofs.firmware.RunningNew.{Apart, trail-apart}
 use Rattle.gb_laws.proofs.firmware.RunningStays.{image-kept}
+use Rattle.gb_laws.proofs.opened.OpeningTold.{told-stays}
 use Rattle.gb_laws.proofs.points.ChangeBuses.{keeps-requests}
 use Rattle.gb_laws.proofs.points.PointParts.{Point}
 use Rattle.gb_laws.proofs.points.Points.{Change, HearsBack, IsElse, IsFarAsking, IsGoing, IsIdle}
@@ -62,13 +64,15 @@ kept-loader i c s = by (module_at i s.modules)
 pub loaded-moved : (m : Moment) (a : Point) (x : Change m a) (i c : ℕ) (image : Image)
     → find (is_trail_at i c) (changed m a x).state.past.loaded
     ≡ find (is_trail_at i c) a.state.past.loaded
-    → IsLoaded a.state i c image → IsLoaded (changed m a x).state i c image
+    → IsLoaded a.told a.state i c image
+    → IsLoaded (changed m a x).told (changed m a x).state i c image
 loaded-moved m a x i c image same h = record {
   trail = h.trail;
   is = same ∙ h.is;
-  made = trails-kept a.state after h.trail h.trail h.trail.requests stay refl h.made;
+  made = trails-kept a.told (changed m a x).told a.state after h.trail h.trail h.trail.requests
+      (told-stays m a x) stay (refl, refl, refl) h.made;
   ranges = λ w. subst (λ rs. Follow 0 rs (length image.bytes))
-      (sym (ranges-kept a.state after h.trail h.trail.requests stay h.made))
+      (sym (ranges-kept a.told a.state after h.trail h.trail.requests stay h.made))
       (h.ranges (λ j. w (unclean-kept m a x h.trail.connection j)));
   given = λ w. image-kept m a x image.tag image.bytes
       (h.given (λ j. w (unclean-kept m a x h.trail.connection j)));
@@ -80,9 +84,9 @@ loaded-moved m a x i c image same h = record {
     stay : KeepsRequests a.state.bus after.bus
     stay = keeps-requests m a x
 
--- each image that is kept, whatever was told
-abbrev pub KeptAt : State → Type 0
-KeptAt s = AreLoaded [] s
+-- each image that is kept did
+abbrev pub KeptAt : Point → Type 0
+KeptAt a = AreLoaded a.told a.state
 
 -- where the loader of a CPort keeps what it kept
 kept-same : (i c : ℕ) (s t : State) (image : Image)
@@ -90,8 +94,8 @@ kept-same : (i c : ℕ) (s t : State) (image : Image)
     → kept i c t ≡ Some image → kept i c s ≡ Some image
 kept-same i c s t image same e = kept-loader i c s ∙ sym same ∙ sym (kept-loader i c t) ∙ e
 
-pub aside-loaded : (m : Moment) (a : Point) (x : Change m a) → IsAside m a x → KeptAt a.state
-    → KeptAt (changed m a x).state
+pub aside-loaded : (m : Moment) (a : Point) (x : Change m a) → IsAside m a x → KeptAt a
+    → KeptAt (changed m a x)
 aside-loaded m a x plain h i c image e =
     let same = same-downloads m a x plain in
     loaded-moved m a x i c image (ap (find (is_trail_at i c)) same.loaded)
@@ -102,7 +106,7 @@ aside-loaded m a x plain h i c image e =
 loader-kept : (m : Moment) (a : Point) (x : Change m a) (i c : ℕ) (before after : Loader)
     → ChangesIn i c before after a.state.modules (changed m a x).state.modules
     → after.kept ≡ before.kept → (changed m a x).state.past.loaded ≡ a.state.past.loaded
-    → KeptAt a.state → KeptAt (changed m a x).state
+    → KeptAt a → KeptAt (changed m a x)
 loader-kept m a x i c before after changes same loaded h j d image e =
     loaded-moved m a x j d image (ap (find (is_trail_at j d)) loaded)
     (h j d image (kept-same j d a.state (changed m a x).state image
@@ -121,9 +125,9 @@ pub begins-loaded : (m : Moment) (a : Point) (d : Draft) (c : Connection) (label
     (free : a.hand ≡ None) (live : connection_of d.connection a.state.bus ≡ Some c)
     (drawn : label_for d a.state.bus ≡ Some label) (i p : ℕ) (x : Module)
     (going : IsGoing m a.state c d (begins i p x)) (far : IsFarAsking m c d)
-    (wired : (c.wired ≡ true) × (d.kind < 128)) → KeptAt a.state
+    (wired : (c.wired ≡ true) × (d.kind < 128)) → KeptAt a
     → KeptAt (changed m a (asks d c label free live drawn (by_loader (begins i p x) going far
-    wired))).state
+    wired)))
 begins-loaded m a d c label free live drawn i p x going far wired =
     loader-kept m a (asks d c label free live drawn (by_loader (begins i p x) going far wired)) i p
     going.7 (loader_begun going.0 going.7)
@@ -135,8 +139,8 @@ begins-loaded m a d c label free live drawn i p x going far wired =
 -- where loaders fail or are gone
 pub others-loaded : (m : Moment) (a : Point) (booted : Bool) (marks : List ℕ) (ports : List Port)
     (modules : List Plugged) (same : IsElse m a booted marks ports modules
-    × KeepLoaders a.state.modules modules) → KeptAt a.state
-    → KeptAt (changed m a (others booted marks ports modules same)).state
+    × KeepLoaders a.state.modules modules) → KeptAt a
+    → KeptAt (changed m a (others booted marks ports modules same))
 others-loaded m a booted marks ports modules same h i c image e =
     loaded-moved m a (others booted marks ports modules same) i c image refl
     (h i c image (kept-loader i c a.state
@@ -153,8 +157,8 @@ others-loaded m a booted marks ports modules same h i c image e =
     by (Some s) (inr (inr (inr failed))) = ap kept_of (sym failed) ∙ now
 
 pub unloads-loaded : (m : Moment) (a : Point) (i : ℕ) (of : IsOfSvc m.event)
-    (gone : module_at i a.state.modules ≡ None) → KeptAt a.state
-    → KeptAt (changed m a (unloads i of gone)).state
+    (gone : module_at i a.state.modules ≡ None) → KeptAt a
+    → KeptAt (changed m a (unloads i of gone))
 unloads-loaded m a i of gone h j c image e =
     loaded-moved m a (unloads i of gone) j c image
     (find-left (is_trail_at j c) (λ t. t.intf == i) a.state.past.loaded (λ t f. other
@@ -217,16 +221,17 @@ loaded-aside i c j d loaded loading other =
     ∙ find-left (is_trail_at j d) (is_trail_at i c) loaded
     (λ t e. trail-apart j d i c t (λ a b. other (sym a) (sym b)) e)
 
-module _ (m : Moment) (a : Point) (rested : RunAt m.before) (remembered : UncleanAreKnown m.before)
+module _ (m : Moment) (a : Point) (rested : RunAt m.told m.before)
+    (remembered : UncleanAreKnown m.before)
     (apart : EachTwo AreApart m.before.bus.connections) (on : Onward m a) (runs : RunIn m a) where
   -- where one goes on
   pub continues-loaded : (d : Draft) (c : Connection) (label : ℕ)
       (free : a.hand ≡ None) (live : connection_of d.connection a.state.bus ≡ Some c)
       (drawn : label_for d a.state.bus ≡ Some label) (i p : ℕ) (x : Module)
       (going : IsGoing m a.state c d (continues i p x)) (far : IsFarAsking m c d)
-      (wired : (c.wired ≡ true) × (d.kind < 128)) → KeptAt a.state
+      (wired : (c.wired ≡ true) × (d.kind < 128)) → KeptAt a
       → KeptAt (changed m a (asks d c label free live drawn (by_loader (continues i p x) going far
-      wired))).state
+      wired)))
   continues-loaded d c label free live drawn i p x going far wired =
       loader-kept m a (asks d c label free live drawn (by_loader (continues i p x) going far wired))
       i p h.before (if_may_ask h.state h.loaded).after h.changes
@@ -245,8 +250,8 @@ module _ (m : Moment) (a : Point) (rested : RunAt m.before) (remembered : Unclea
 
   -- what is kept is what the download has
   pub finishes-loaded : (i p : ℕ) (x : Module) (tag : List ℕ) (size : ℕ) (idle : IsIdle a)
-      (hears : HearsBack m a.state i p x (next.Done tag size)) → KeptAt a.state
-      → KeptAt (changed m a (finishes i p x tag size idle hears)).state
+      (hears : HearsBack m a.state i p x (next.Done tag size)) → KeptAt a
+      → KeptAt (changed m a (finishes i p x tag size idle hears))
   finishes-loaded i p x tag size idle hears kept_so j d image e =
       ⊎_elim here there (one-or_apart j d i p)
     where
@@ -255,6 +260,9 @@ module _ (m : Moment) (a : Point) (rested : RunAt m.before) (remembered : Unclea
 
       after : State
       after = (changed m a change).state
+
+      told : List Entry
+      told = (changed m a change).told
 
       h : Heard m a i p x (next.Done tag size)
       h = heard m a rested remembered apart on runs i p x (next.Done tag size) hears
@@ -275,30 +283,30 @@ module _ (m : Moment) (a : Point) (rested : RunAt m.before) (remembered : Unclea
       new : Image
       new = record { tag = h.answered.download.tag; bytes = h.answered.download.bytes }
 
-      new-loaded : IsLoaded after i p new
+      new-loaded : IsLoaded told after i p new
       new-loaded = record {
         trail = h.run.trail;
         is = loaded-here i p a.state.past.loaded a.state.past.loading ∙ found;
-        made = trails-kept a.state after h.run.trail h.run.trail h.run.trail.requests
-            (λ n r f. f) refl h.run.made;
+        made = trails-kept a.told (changed m a change).told a.state after h.run.trail h.run.trail
+            h.run.trail.requests (told-stays m a change) (λ n r f. f) (refl, refl, refl) h.run.made;
         ranges = λ w. subst (λ v. Follow 0 (ranges_of h.run.trail.requests a.state.bus)
             (reached v h.answered.download)) done.awaits (h.run.clean w).ranges;
         given = λ w. subst (λ v. HasSoFar (FitsAt m) a.state h.last.request h.run.trail.connection v
             h.answered.download) done.awaits (h.run.clean w).has;
       }
 
-      here : (j ≡ i) × (d ≡ p) → IsLoaded after j d image
+      here : (j ≡ i) × (d ≡ p) → IsLoaded told after j d image
       here s =
           let now = sym done.kept ∙ ap (λ (l : Loader). l.kept) (sym step.1)
           ∙ sym (ap kept_of h.changes.is)
           ∙ ap (λ k. kept_of (loader_in i k after.modules)) (sym s.1)
           ∙ ap (λ k. kept_of (loader_in k d after.modules)) (sym s.0)
           ∙ sym (kept-loader j d after) ∙ e in
-          subst (λ k. IsLoaded after k d image) (sym s.0)
-          (subst (λ k. IsLoaded after i k image) (sym s.1)
-          (subst (λ y. IsLoaded after i p y) (same-some new image now) new-loaded))
+          subst (λ k. IsLoaded told after k d image) (sym s.0)
+          (subst (λ k. IsLoaded told after i k image) (sym s.1)
+          (subst (λ y. IsLoaded told after i p y) (same-some new image now) new-loaded))
 
-      there : Apart j d i p → IsLoaded after j d image
+      there : Apart j d i p → IsLoaded told after j d image
       there o = loaded-moved m a change j d image
           (loaded-aside i p j d a.state.past.loaded a.state.past.loading
           (λ s t. o (sym s) (sym t)))

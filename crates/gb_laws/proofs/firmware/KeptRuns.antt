@@ -1,14 +1,17 @@
 -- What a firmware device keeps is the image that was given, in every state of every run.
-use Rattle.std.proofs.Common.{List, ap, false, inl, inr, refl, ◌++◌, ◌≡◌}
+use Rattle.std.proofs.Common.{List, ap, false, inl, inr, refl, ℕ, ◌++◌, ◌≡◌}
+use Rattle.gb_base.specs.declared.end.End.{End}
+use Rattle.gb_base.specs.declared.end.End.TheVariants as end
 use Rattle.gb_base.specs.declared.entry.Entry.{Entry}
+use Rattle.gb_formats.specs.Images.{Image}
 use Rattle.gb_machine.specs.Bus.{Connection}
 use Rattle.gb_machine.specs.LawsBus.{AreApart}
-use Rattle.gb_machine.specs.LawsFirmware.{AreLoaded, KeptIsTheImage}
-use Rattle.gb_machine.specs.Members.{EachTwo, IsIn}
-use Rattle.gb_machine.specs.Runs.{IsMoment, Moment, after, told_at}
-use Rattle.gb_machine.specs.State.{State, first_state}
+use Rattle.gb_machine.specs.LawsFirmware.{AreLoaded, IsLoaded, IsOnTrail, KeptIsTheImage, WasAsked}
+use Rattle.gb_machine.specs.Members.{Each, EachTwo, IsIn}
+use Rattle.gb_machine.specs.Runs.{IsMoment, Moment, after, happenings, told_at}
+use Rattle.gb_machine.specs.State.{State, Trail, first_state}
 use Rattle.gb_invariants.proofs.Awaiting.{none-some}
-use Rattle.gb_invariants.proofs.Lists.{not-both}
+use Rattle.gb_invariants.proofs.Lists.{each-weaker, not-both}
 use Rattle.gb_laws.proofs.basis.Basics.{basis}
 use Rattle.gb_laws.proofs.firmware.FirmwareOnward.{Onward, UncleanAreKnown, onward-kept}
 use Rattle.gb_laws.proofs.firmware.ImageFacts.{AreShort}
@@ -18,12 +21,14 @@ use Rattle.gb_laws.proofs.firmware.KeptImages.{unloads-loaded}
 use Rattle.gb_laws.proofs.firmware.Running.{RunAt, RunIn}
 use Rattle.gb_laws.proofs.firmware.RunningGoes.{begins-kept, continues-kept, finishes-kept}
 use Rattle.gb_laws.proofs.firmware.RunningKept.{aside-kept, others-kept, unloads-kept}
+use Rattle.gb_laws.proofs.firmware.RunningMoved.{asked-kept}
 use Rattle.gb_laws.proofs.firmware.RunningRests.{runs-end, runs-start}
 use Rattle.gb_laws.proofs.identifiers.Endpoints.{ApartTo, apart-first, apart-over}
+use Rattle.gb_laws.proofs.points.Happened.{happened-told, told-happened}
 use Rattle.gb_laws.proofs.points.PointParts.{Basis, Point, resting}
 use Rattle.gb_laws.proofs.points.Points.{Change, Law, asks, begins, by_loader, changed, continues}
 use Rattle.gb_laws.proofs.points.Points.{finishes, others, unloads, upon}
-use Rattle.gb_laws.proofs.runs.AllRuns.{of-all, of-untold}
+use Rattle.gb_laws.proofs.runs.AllRuns.{SeesHappenings, of-all}
 use Rattle.gb_laws.proofs.runs.Runs.{HoldsByMoments, throughout, weaker}
 use Rattle.gb_laws.proofs.steps.Steps.{over-step}
 
@@ -32,15 +37,15 @@ pub record DownloadsTo (told : List Entry) (s : State) : Type 0 where
   pub apart : ApartTo told s
   pub remembered : UncleanAreKnown s
   pub short : AreShort s.host.images
-  pub runs : RunAt s
-  pub kept : KeptAt s
+  pub runs : RunAt told s
+  pub kept : AreLoaded told s
 
 module _ (m : Moment) (one : IsMoment m.event) (start : DownloadsTo m.told m.before) where
   -- ---- each single change
 
   -- what is known of downloads and of what is kept
   abbrev DownloadsAt : Point → Type 0
-  DownloadsAt a = RunIn m a × KeptAt a.state
+  DownloadsAt a = RunIn m a × KeptAt a
 
   abbrev ends : EachTwo AreApart m.before.bus.connections
   ends = start.apart.apart
@@ -104,7 +109,7 @@ module _ (m : Moment) (one : IsMoment m.event) (start : DownloadsTo m.told m.bef
         apart = apart-over m one start.apart;
         remembered = r.1.0.1.remembered;
         short = r.1.0.1.short;
-        runs = runs-end _ m.before.bus.connections (after m) r.1.1.0;
+        runs = runs-end _ m.before.bus.connections (after m) (m.told ++ told_at m) r.1.1.0;
         kept = r.1.1.1;
       }
 
@@ -125,7 +130,51 @@ downloads-throughout = throughout DownloadsTo (record {
         absurd (not-both c.clean (ap (λ (x : Connection). x.clean) e) dirty)
     clean c (inr i) dirty = absurd i
 
+-- It is no matter what else was told than what happened.
+kept-seen : SeesHappenings AreLoaded
+kept-seen = record {
+  there = λ told s h i c image e. loaded-seen told (happenings told) s i c image
+      (λ n from. asked-there told n from) (h i c image e);
+  back = λ told s h i c image e. loaded-seen (happenings told) told s i c image
+      (λ n from. asked-kept (happenings told) told n from (λ x j. happened-told x told j))
+      (h i c image e);
+}
+  where
+    asked-there : (told : List Entry) (n : ℕ) (from : End) → WasAsked told n from
+        → WasAsked (happenings told) n from
+    asked-there told n from h = record {
+      to = h.to;
+      kind = h.kind;
+      size = h.size;
+      bytes = h.bytes;
+      lost = h.lost;
+      said = told-happened _ told refl h.said;
+    }
+
+    trails-seen : (told more : List Entry) (s : State) (t : Trail) (ns : List ℕ)
+        → ((n : ℕ) (from : End) → WasAsked told n from → WasAsked more n from)
+        → Each (IsOnTrail told s t) ns → Each (IsOnTrail more s t) ns
+    trails-seen told more s t ns f h = each-weaker (IsOnTrail told s t) (IsOnTrail more s t) ns
+        (λ n x. record {
+          request = x.request;
+          is = x.is;
+          connection = x.connection;
+          side = x.side;
+          asked = f n (end.Module t.intf t.cport) x.asked;
+        }) h
+
+    loaded-seen : (told more : List Entry) (s : State) (i c : ℕ) (image : Image)
+        → ((n : ℕ) (from : End) → WasAsked told n from → WasAsked more n from)
+        → IsLoaded told s i c image → IsLoaded more s i c image
+    loaded-seen told more s i c image f h = record {
+      trail = h.trail;
+      is = h.is;
+      made = trails-seen told more s h.trail h.trail.requests f h.made;
+      ranges = h.ranges;
+      given = h.given;
+    }
+
 -- What a firmware device keeps is the image that was given.
 pub kept-is_the_image : KeptIsTheImage
-kept-is_the_image = of-all AreLoaded (of-untold AreLoaded (λ told more s h. h))
+kept-is_the_image = of-all AreLoaded kept-seen
     (weaker DownloadsTo AreLoaded (λ told s h. h.kept) downloads-throughout)

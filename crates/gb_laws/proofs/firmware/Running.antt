@@ -6,6 +6,7 @@ use Rattle.std.specs.List.{find}
 use Rattle.std.specs.Prelude.{drop, take}
 use Rattle.gb_base.specs.declared.end.End.TheVariants as end
 use Rattle.gb_base.specs.declared.end.Side.TheVariants as side
+use Rattle.gb_base.specs.declared.entry.Entry.{Entry}
 use Rattle.gb_formats.specs.Images.{image_of}
 use Rattle.gb_formats.specs.Loader.{Awaits, Download, Loader, padded, piece}
 use Rattle.gb_formats.specs.Records.{le32}
@@ -116,11 +117,11 @@ pub record Fetches (fits : Fits) (old : List Connection) (hand : Option Hand) (s
       → QuietAt t.connection s.bus
 
 -- What is known of a download that runs, of the requests that it made and of the last of them.
-pub record Running (fits : Fits) (old : List Connection) (hand : Option Hand) (s : State) (l : Load)
-    (d : Download) : Type 0 where
+pub record Running (fits : Fits) (old : List Connection) (hand : Option Hand)
+    (told : List Entry) (s : State) (l : Load) (d : Download) : Type 0 where
   pub trail : Trail
   pub found : find (is_trail_at l.intf l.cport) s.past.loading ≡ Some trail
-  pub made : Each (IsOnTrail s trail) trail.requests
+  pub made : Each (IsOnTrail told s trail) trail.requests
   pub request : Request
   pub is : request_of l.request s.bus ≡ Some request
   pub connection : request.connection ≡ trail.connection
@@ -133,17 +134,17 @@ pub record Running (fits : Fits) (old : List Connection) (hand : Option Hand) (s
   pub clean : WasClean trail.connection s → Fetches fits old hand s l.request trail d
 
 -- each download that runs is so
-abbrev pub AreRunning : Fits → List Connection → Option Hand → State → Type 0
-AreRunning fits old hand s =
+abbrev pub AreRunning : Fits → List Connection → Option Hand → List Entry → State → Type 0
+AreRunning fits old hand told s =
     (l : Load) → IsIn l s.loads → (r : Loader) → loader_in l.intf l.cport s.modules ≡ Some r
-    → (d : Download) → r.running ≡ Some d → Running fits old hand s l d
+    → (d : Download) → r.running ≡ Some d → Running fits old hand told s l d
 
 -- in a state at rest
 abbrev pub Free : Fits
 Free k id tag = Unit {0}
 
-abbrev pub RunAt : State → Type 0
-RunAt s = AreRunning Free s.bus.connections None s
+abbrev pub RunAt : List Entry → State → Type 0
+RunAt told s = AreRunning Free s.bus.connections None told s
 
 -- What a moment that serves a request on the connection lends has the tag too.
 abbrev pub FitsAt : Moment → Fits
@@ -152,4 +153,4 @@ FitsAt m k id tag = (kind : ℕ) (payload : List ℕ) → IsServed m k kind payl
 
 -- at a point of a moment
 abbrev pub RunIn : Moment → Point → Type 0
-RunIn m a = AreRunning (FitsAt m) m.before.bus.connections a.hand a.state
+RunIn m a = AreRunning (FitsAt m) m.before.bus.connections a.hand a.told a.state

@@ -6,27 +6,31 @@ use Rattle.std.specs.List.{find}
 use Rattle.std.specs.Prelude.{Err, Ok, min, ◌&&◌, ◌==◌}
 use Rattle.gb_base.specs.declared.download.Next.TheVariants as next
 use Rattle.gb_base.specs.declared.end.End.TheVariants as end
+use Rattle.gb_base.specs.declared.end.Side.TheVariants as side
 use Rattle.gb_base.specs.declared.served.OwnAsk.{OwnAsk}
 use Rattle.gb_formats.specs.FirmwareRecords.{FirmwareAsk, read_firmware_ask}
 use Rattle.gb_formats.specs.Loader.{Awaits, Download, Loader, loader_begun}
+use Rattle.gb_formats.specs.Message.{message_size, request, spelling}
 use Rattle.gb_formats.specs.Module.{Module}
 use Rattle.gb_formats.specs.ModuleLoads.{if_may_ask, module_load}
 use Rattle.gb_formats.specs.Records.{PayloadFault}
 use Rattle.gb_formats.specs.ValidEvents.{IsTag}
-use Rattle.gb_machine.specs.Bus.{Connection, connection_of, next_number}
+use Rattle.gb_machine.specs.Asking.{asked}
+use Rattle.gb_machine.specs.Bus.{Connection, connection_of, end_of, next_number, other_side}
 use Rattle.gb_machine.specs.LawsBus.{AreApart}
-use Rattle.gb_machine.specs.LawsFirmware.{Follow, WasClean, range_in, range_of, ranges_of}
+use Rattle.gb_machine.specs.LawsFirmware.{Follow, WasAsked, WasClean, range_in, range_of, ranges_of}
 use Rattle.gb_machine.specs.Lists.{without}
 use Rattle.gb_machine.specs.Loading.{is_load_at, is_trail_at, last_asked}
 use Rattle.gb_machine.specs.Members.{EachTwo, IsIn}
 use Rattle.gb_machine.specs.Modules.{with_module}
 use Rattle.gb_machine.specs.Runs.{IsMoment, Moment}
-use Rattle.gb_machine.specs.Sending.{Draft, label_for, requested}
+use Rattle.gb_machine.specs.Sending.{Draft, is_lost, label_for, requested}
 use Rattle.gb_machine.specs.State.{Load, State, Trail}
 use Rattle.gb_invariants.proofs.Awaiting.{none-some, same-some}
-use Rattle.gb_invariants.proofs.Lists.{each-in, in-pushed, in-without, not-both}
+use Rattle.gb_invariants.proofs.Lists.{each-in, found-in, in-behind, in-pushed, in-without}
+use Rattle.gb_invariants.proofs.Lists.{not-both}
 use Rattle.gb_invariants.proofs.Numbers.{found-number}
-use Rattle.gb_invariants.proofs.Outcomes.{is-same}
+use Rattle.gb_invariants.proofs.Outcomes.{both-true, is-same, same-number}
 use Rattle.gb_invariants.proofs.Selves.{svc-no-module}
 use Rattle.gb_invariants.specs.Facts.{BusFits, IsMade, Loose}
 use Rattle.gb_laws.proofs.firmware.FirmwareOnward.{Onward, UncleanAreKnown}
@@ -43,7 +47,8 @@ use Rattle.gb_laws.proofs.firmware.RunningNew.{Apart, first-aside, first-found, 
 use Rattle.gb_laws.proofs.firmware.RunningNew.{longer-aside, longer-found, new-only, run-new}
 use Rattle.gb_laws.proofs.firmware.RunningStays.{run-moved}
 use Rattle.gb_laws.proofs.links.LinkFrom.{Linked}
-use Rattle.gb_laws.proofs.points.PointParts.{Basis, Point, loose}
+use Rattle.gb_laws.proofs.opened.OpeningTold.{told-stays}
+use Rattle.gb_laws.proofs.points.PointParts.{Basis, Point, asked_told, loose}
 use Rattle.gb_laws.proofs.points.Points.{Change, HearsBack, IsAskedBy, IsFarAsking, IsGoing, IsIdle}
 use Rattle.gb_laws.proofs.points.Points.{asks, begins, by_loader, changed, continues, finishes}
 use Rattle.gb_laws.proofs.points.Points.{loader_in}
@@ -114,14 +119,30 @@ module _ (m : Moment) (a : Point) (basis : Basis a) (on : Onward m a) (runs : Ru
   after = (changed m a ask).state
 
   abbrev Runs : Load → Download → Type 0
-  Runs l e = Running (FitsAt m) m.before.bus.connections (changed m a ask).hand after l e
+  Runs l e = Running (FitsAt m) m.before.bus.connections (changed m a ask).hand
+      (changed m a ask).told after l e
 
   c_live : IsIn c a.state.bus.connections × (c.number ≡ d.connection)
   c_live = found-number d.connection a.state.bus c live
 
+  -- what is told of the request
+  asked-now : (i p : ℕ) → d.side ≡ side.Far → c.peer ≡ end.Module i p
+      → WasAsked (changed m a ask).told (next_number a.state.bus) (end.Module i p)
+  asked-now i p far peer = subst (WasAsked (changed m a ask).told (next_number a.state.bus))
+      (ap (λ s. end_of s c) far ∙ peer) (record {
+        to = end_of (other_side d.side) c;
+        kind = d.kind;
+        size = message_size d.payload;
+        bytes = spelling (request label d.kind d.payload);
+        lost = is_lost d a.state.bus;
+        said = in-behind (asked d c label a.state.bus) a.told (asked_told d c label a.state.bus)
+            (inl refl);
+      })
+
   -- another download is none of its business
   run-other : (i p : ℕ) (l : Load) (e : Download)
-      → Running (FitsAt m) m.before.bus.connections a.hand a.state l e → c.peer ≡ end.Module i p
+      → Running (FitsAt m) m.before.bus.connections a.hand a.told a.state l e
+      → c.peer ≡ end.Module i p
       → Apart l.intf l.cport i p
       → find (is_trail_at l.intf l.cport) after.past.loading
       ≡ find (is_trail_at l.intf l.cport) a.state.past.loading → Runs l e
@@ -147,6 +168,7 @@ begins-kept m a one links before was basis on runs d c label free live drawn i p
     Runs : Load → Download → Type 0
     Runs l e = Running (FitsAt m) m.before.bus.connections
         (changed m a (asks d c label free live drawn who)).hand
+        (changed m a (asks d c label free live drawn who)).told
         (changed m a (asks d c label free live drawn who)).state l e
 
     tag : List ℕ
@@ -181,12 +203,15 @@ begins-kept m a one links before was basis on runs d c label free live drawn i p
 
     fresh : Runs (record { intf = i; cport = p; request = next_number a.state.bus }) first
     fresh = subst (λ h. Running (FitsAt m) m.before.bus.connections h
+        (changed m a (asks d c label free live drawn who)).told
         (changed m a (asks d c label free live drawn who)).state
         (record { intf = i; cport = p; request = next_number a.state.bus }) first) (sym free)
         (run-new a.state (changed m a (asks d c label free live drawn who)).state d label refl
         (loose a) basis.bus before m.before was on.requests going.10.0
         (subst (λ n. n ≤ a.state.bus.made) c_live.1 (each-in (IsMade a.state.bus)
-        a.state.bus.connections c basis.bus.numbers.range c_live.0).1) (FitsAt m)
+        a.state.bus.connections c basis.bus.numbers.range c_live.0).1) a.told
+        (changed m a (asks d c label free live drawn who)).told
+        (told-stays m a (asks d c label free live drawn who)) (FitsAt m)
         (record { intf = i; cport = p; request = next_number a.state.bus }) first c
         (record {
           intf = i;
@@ -196,6 +221,7 @@ begins-kept m a one links before was basis on runs d c label free live drawn i p
         }) [] 0 refl c_live.0 c_live.1 going.4 refl refl
         (first-found i p d.connection (next_number a.state.bus) a.state.past.loading) tt other
         (subst IsMoment going.2 one).2 refl (going.10.1, going.10.2)
+        (asked-now m a basis on runs d c label free live drawn who i p going.10.0 going.4)
         (λ w. (
           refl,
           subst (λ rs. Follow 0 rs 0) (sym (ap (λ k. range_in (read_firmware_ask k
@@ -211,7 +237,8 @@ begins-kept m a one links before was basis on runs d c label free live drawn i p
 
 -- ---- what goes on
 
-module _ (m : Moment) (a : Point) (rested : RunAt m.before) (remembered : UncleanAreKnown m.before)
+module _ (m : Moment) (a : Point) (rested : RunAt m.told m.before)
+    (remembered : UncleanAreKnown m.before)
     (apart : EachTwo AreApart m.before.bus.connections) (before : List Loose)
     (was : BusFits before m.before.bus) (basis : Basis a) (on : Onward m a) (runs : RunIn m a) where
   pub continues-kept : (d : Draft) (c : Connection) (label : ℕ) (free : a.hand ≡ None)
@@ -232,7 +259,8 @@ module _ (m : Moment) (a : Point) (rested : RunAt m.before) (remembered : Unclea
 
       Runs : Load → Download → Type 0
       Runs l e = Running (FitsAt m) m.before.bus.connections
-          (changed m a (asks d c label free live drawn who)).hand after l e
+          (changed m a (asks d c label free live drawn who)).hand
+          (changed m a (asks d c label free live drawn who)).told after l e
 
       own : OwnAsk
       own = going.0
@@ -273,6 +301,13 @@ module _ (m : Moment) (a : Point) (rested : RunAt m.before) (remembered : Unclea
           (subst (λ k. find (is_trail_at h.last.intf k) a.state.past.loading ≡ Some h.run.trail)
           h.cport h.run.found)
 
+      at_own : end.Module h.run.trail.intf h.run.trail.cport ≡ end.Module i p
+      at_own =
+          let f = (found-in (is_trail_at i p) a.state.past.loading h.run.trail found).1 in
+          let s = both-true (h.run.trail.intf == i) (h.run.trail.cport == p) f in
+          ap₂ end.Module (same-number h.run.trail.intf i s.0)
+          (same-number h.run.trail.cport p s.1)
+
       made : d.connection ≤ a.state.bus.made
       made = subst (λ n. n ≤ a.state.bus.made) c_live.1 (each-in (IsMade a.state.bus)
           a.state.bus.connections c basis.bus.numbers.range c_live.0).1
@@ -307,15 +342,17 @@ module _ (m : Moment) (a : Point) (rested : RunAt m.before) (remembered : Unclea
           )
 
       fresh : Runs load went.download
-      fresh = subst (λ hand. Running (FitsAt m) m.before.bus.connections hand after load
-          went.download) (sym free)
+      fresh = subst (λ hand. Running (FitsAt m) m.before.bus.connections hand
+          (changed m a (asks d c label free live drawn who)).told after load went.download)
+          (sym free)
           (run-new a.state after d label refl (loose a) basis.bus before m.before was on.requests
-          going.3.0 made (FitsAt m) load went.download c trail
+          going.3.0 made a.told (changed m a (asks d c label free live drawn who)).told
+          (told-stays m a (asks d c label free live drawn who)) (FitsAt m) load went.download c trail
           h.run.trail.requests (reached h.answered.download.awaits h.answered.download) refl
           c_live.0 c_live.1 going.1 (sym number) refl
           (longer-found i p (next_number a.state.bus) a.state.past.loading h.run.trail found)
-          (trails-kept a.state a.state h.run.trail trail h.run.trail.requests (λ n r e. e) refl
-          h.run.made) (λ s. h.run.other (sym number ∙ s))
+          (trails-kept a.told a.told a.state a.state h.run.trail trail h.run.trail.requests
+          (λ x i. i) (λ n r e. e) (refl, refl, refl) h.run.made) (λ s. h.run.other (sym number ∙ s))
           (subst IsTag (sym (goes-all h.answered.download went.download h.payload own
           (went.download.tag ≡ h.answered.download.tag)
           (λ id size f t q. piece-tag id size f went.download own q ∙ t) went.goes)) h.run.tag)
@@ -326,6 +363,9 @@ module _ (m : Moment) (a : Point) (rested : RunAt m.before) (remembered : Unclea
           (AsksFor went.download.awaits went.download (requested d label))
           (λ id size f t q. piece-asks id size f went.download own d label going.3.1 going.3.2 q)
           went.goes)
+          (subst (λ k. WasAsked (changed m a (asks d c label free live drawn who)).told
+          (next_number a.state.bus) k) (sym at_own)
+          (asked-now m a basis on runs d c label free live drawn who i p going.3.0 going.1))
           (λ w. known (subst (λ n. WasClean n a.state) number w)))
 
       new : l ≡ load → Runs l e
@@ -358,6 +398,7 @@ module _ (m : Moment) (a : Point) (rested : RunAt m.before) (remembered : Unclea
 
       Runs : Type 0
       Runs = Running (FitsAt m) m.before.bus.connections a.hand
+          (changed m a (finishes i p x tag size idle hears)).told
           (changed m a (finishes i p x tag size idle hears)).state l e
 
       here : (l.intf ≡ i) × (l.cport ≡ p) → Runs

@@ -67,7 +67,7 @@ reply-no-ask (Some k) q r n e = absurd cc
 -- and no request comes on the connection of a download
 none-comes : (m : Moment) (a : Point) (x : Change m a) → IsAside m a x → (l : Load) (d : Download)
     (r : Loader) → loader_in l.intf l.cport a.state.modules ≡ Some r
-    → (run : Running (FitsAt m) m.before.bus.connections a.hand a.state l d) (n : ℕ)
+    → (run : Running (FitsAt m) m.before.bus.connections a.hand a.told a.state l d) (n : ℕ)
     → number_of (bus_change x) ≡ run.trail.connection
     → BringsTo (bus_change x) a.state.bus side.Ap (Ask n) → ⊥
 none-comes m a (asks d' c label free live drawn (by_host q rest is draft none)) plain l d r at run n
@@ -98,7 +98,7 @@ aside-kept m a x plain basis on runs l i r at d ran =
     was : loader_in l.intf l.cport a.state.modules ≡ Some r
     was = ap (loader_in l.intf l.cport) (sym same.modules) ∙ at
 
-    run : Running (FitsAt m) m.before.bus.connections a.hand a.state l d
+    run : Running (FitsAt m) m.before.bus.connections a.hand a.told a.state l d
     run = runs l (subst (λ ls. IsIn l ls) same.loads i) r was d ran
 
 -- ---- CPorts
@@ -131,7 +131,7 @@ others-kept m a booted marks ports modules same basis on runs l i r at d ran =
   where
     by : (o : Option Loader) → loader_in l.intf l.cport a.state.modules ≡ o
         → StaysOrFails o (loader_in l.intf l.cport modules)
-        → Running (FitsAt m) m.before.bus.connections a.hand a.state l d
+        → Running (FitsAt m) m.before.bus.connections a.hand a.told a.state l d
     by o e (inl stays) = runs l i r (e ∙ sym stays ∙ at) d ran
     by o e (inr (inl none)) = absurd (none-some (sym none ∙ at))
     by o e (inr (inr (inl fresh))) =

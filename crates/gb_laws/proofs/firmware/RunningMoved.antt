@@ -2,13 +2,16 @@
 use Rattle.std.proofs.Common.{List, Option, Some, ap, ap₂, arith, inl, inr, refl, subst, sym, ℕ}
 use Rattle.std.proofs.Common.{⊎_elim, [], ◌++◌, ◌∙◌, ◌∷◌, ◌≡◌, ◌≤◌, ◌⊎◌}
 use Rattle.gb_base.specs.declared.end.End.{End}
+use Rattle.gb_base.specs.declared.end.End.TheVariants as end
 use Rattle.gb_base.specs.declared.end.Side.{Side}
 use Rattle.gb_base.specs.declared.end.Side.TheVariants as side
+use Rattle.gb_base.specs.declared.entry.Entry.{Entry}
+use Rattle.gb_base.specs.declared.entry.Entry.TheVariants as entry
 use Rattle.gb_formats.specs.Images.{image_of}
 use Rattle.gb_formats.specs.Loader.{Awaits, Download}
 use Rattle.gb_formats.specs.Results.{success}
 use Rattle.gb_machine.specs.Bus.{Ask, Bus, Connection, Reply, queue}
-use Rattle.gb_machine.specs.LawsFirmware.{Follow, IsOnTrail, range_of, ranges_of}
+use Rattle.gb_machine.specs.LawsFirmware.{Follow, IsOnTrail, WasAsked, range_of, ranges_of}
 use Rattle.gb_machine.specs.Members.{Each, IsIn}
 use Rattle.gb_machine.specs.State.{State, Trail}
 use Rattle.gb_invariants.proofs.BusChanges.{BusChange, KeepsRequests, Was, bus_after, came}
@@ -23,27 +26,54 @@ use Rattle.gb_laws.proofs.points.PointParts.{Hand}
 
 -- ---- requests
 
-pub trail-kept : (s after : State) (t u : Trail) (n : ℕ) → KeepsRequests s.bus after.bus
-    → u.connection ≡ t.connection → IsOnTrail s t n → IsOnTrail after u n
-trail-kept s after t u n keeps same h = record {
-  request = h.request;
-  is = keeps n h.request h.is;
-  connection = h.connection ∙ sym same;
-  side = h.side;
+-- a trail of the same CPort over the same connection
+abbrev pub SameTrail : Trail → Trail → Type 0
+SameTrail t u = (u.connection ≡ t.connection) × (u.intf ≡ t.intf) × (u.cport ≡ t.cport)
+
+-- what was told is told still
+abbrev pub Grows : List Entry → List Entry → Type 0
+Grows told more = (e : Entry) → IsIn e told → IsIn e more
+
+pub asked-kept : (told more : List Entry) (n : ℕ) (from : End) → Grows told more
+    → WasAsked told n from → WasAsked more n from
+asked-kept told more n from grows h = record {
+  to = h.to;
+  kind = h.kind;
+  size = h.size;
+  bytes = h.bytes;
+  lost = h.lost;
+  said = grows (entry.Asked n from h.to h.kind h.size h.bytes h.lost) h.said;
 }
 
-pub trails-kept : (s after : State) (t u : Trail) (ns : List ℕ) → KeepsRequests s.bus after.bus
-    → u.connection ≡ t.connection → Each (IsOnTrail s t) ns → Each (IsOnTrail after u) ns
-trails-kept s after t u [] keeps same h = tt
-trails-kept s after t u (n ∷ ns) keeps same h =
-    (trail-kept s after t u n keeps same h.0, trails-kept s after t u ns keeps same h.1)
+trail-kept : (told more : List Entry) (s after : State) (t u : Trail) (n : ℕ) → Grows told more
+    → KeepsRequests s.bus after.bus → SameTrail t u → IsOnTrail told s t n → IsOnTrail more after u n
+trail-kept told more s after t u n grows keeps same h = record {
+  request = h.request;
+  is = keeps n h.request h.is;
+  connection = h.connection ∙ sym same.0;
+  side = h.side;
+  asked = asked-kept told more n (end.Module u.intf u.cport) grows
+      (subst (λ i. WasAsked told n (end.Module i u.cport)) (sym same.1)
+      (subst (λ c. WasAsked told n (end.Module t.intf c)) (sym same.2) h.asked));
+}
 
-pub ranges-kept : (s after : State) (t : Trail) (ns : List ℕ) → KeepsRequests s.bus after.bus
-    → Each (IsOnTrail s t) ns → ranges_of ns after.bus ≡ ranges_of ns s.bus
-ranges-kept s after t [] keeps h = refl
-ranges-kept s after t (n ∷ ns) keeps h =
+pub trails-kept : (told more : List Entry) (s after : State) (t u : Trail) (ns : List ℕ)
+    → Grows told more → KeepsRequests s.bus after.bus → SameTrail t u
+    → Each (IsOnTrail told s t) ns → Each (IsOnTrail more after u) ns
+trails-kept told more s after t u [] grows keeps same h = tt
+trails-kept told more s after t u (n ∷ ns) grows keeps same h = (
+  trail-kept told more s after t u n grows keeps same h.0,
+  trails-kept told more s after t u ns grows keeps same h.1,
+)
+
+pub ranges-kept : (told : List Entry) (s after : State) (t : Trail) (ns : List ℕ)
+    → KeepsRequests s.bus after.bus → Each (IsOnTrail told s t) ns
+    → ranges_of ns after.bus ≡ ranges_of ns s.bus
+ranges-kept told s after t [] keeps h = refl
+ranges-kept told s after t (n ∷ ns) keeps h =
     ap₂ (λ (a b : List (ℕ × ℕ)). a ++ b)
-    (ap range_of (keeps n h.0.request h.0.is ∙ sym h.0.is)) (ranges-kept s after t ns keeps h.1)
+    (ap range_of (keeps n h.0.request h.0.is ∙ sym h.0.is))
+    (ranges-kept told s after t ns keeps h.1)
 
 -- ---- connections
 
@@ -178,15 +208,15 @@ module _ (s after : State) (x : BusChange) (is : after.bus ≡ bus_after x s.bus
     good-moved Awaits.Release p has g = tt
 
     -- What is known of a download stays.
-    pub fetches-moved : (old : List Connection) (hand next : Option Hand) (t : Trail)
-        → t.connection ≡ k → Each (IsOnTrail s t) t.requests
+    pub fetches-moved : (old : List Connection) (hand next : Option Hand) (told : List Entry)
+        (t : Trail) → t.connection ≡ k → Each (IsOnTrail told s t) t.requests
         → ((p : List ℕ) → number_of x ≡ k → BringsTo x s.bus side.Far (Reply w success p)
         → QuietAt k s.bus × IsGood fits s k d.awaits d p)
         → ((h : Hand) → next ≡ Some h → h.side ≡ side.Ap → h.item ≡ Ask w → QuietAt k after.bus)
         → Fetches fits old hand s w t d → Fetches fits old next after w t d
-    fetches-moved old hand next t on made comes takes f = record {
+    fetches-moved old hand next told t on made comes takes f = record {
       ranges = subst (λ rs. Follow 0 rs (reached d.awaits d))
-          (sym (ranges-kept s after t t.requests keeps made)) f.ranges;
+          (sym (ranges-kept told s after t t.requests keeps made)) f.ranges;
       behind = subst (λ n. AtNumber n after.bus.connections (λ c. NoneBehind w c.to_ap)) (sym on)
           (behind-moved none (subst (λ n. AtNumber n s.bus.connections
           (λ c. NoneBehind w c.to_ap)) on f.behind));

@@ -8,13 +8,15 @@ use Rattle.std.specs.Option.{option_or}
 use Rattle.std.specs.Prelude.{option_map, ◌&&◌, ◌==◌}
 use Rattle.gb_base.specs.declared.end.End.TheVariants as end
 use Rattle.gb_base.specs.declared.end.Side.TheVariants as side
+use Rattle.gb_base.specs.declared.entry.Entry.{Entry}
 use Rattle.gb_formats.specs.Loader.{Download}
 use Rattle.gb_formats.specs.Results.{success}
 use Rattle.gb_formats.specs.ValidEvents.{IsTag}
 use Rattle.gb_machine.proofs.Lists.{nth-within}
 use Rattle.gb_machine.specs.Bus.{Ask, Bus, Connection, Item, Reply, Request, next_number}
 use Rattle.gb_machine.specs.Bus.{request_of}
-use Rattle.gb_machine.specs.LawsFirmware.{Follow, IsOnTrail, WasClean, range_of, ranges_of}
+use Rattle.gb_machine.specs.LawsFirmware.{Follow, IsOnTrail, WasAsked, WasClean, range_of}
+use Rattle.gb_machine.specs.LawsFirmware.{ranges_of}
 use Rattle.gb_machine.specs.Lists.{behind_first, without}
 use Rattle.gb_machine.specs.Loading.{first_trail, is_trail_at, longer_trail}
 use Rattle.gb_machine.specs.Members.{Each, IsIn}
@@ -32,7 +34,8 @@ use Rattle.gb_laws.proofs.firmware.FirmwareQueues.{in-fewer, in-queued, lost, mo
 use Rattle.gb_laws.proofs.firmware.PiecesKnown.{follow-append}
 use Rattle.gb_laws.proofs.firmware.Running.{AsksFor, AtNumber, Fits, HasSoFar, IsFresh, QuietAt}
 use Rattle.gb_laws.proofs.firmware.Running.{Replied, Running, reached}
-use Rattle.gb_laws.proofs.firmware.RunningMoved.{older, reply-moved, trails-kept}
+use Rattle.gb_laws.proofs.firmware.RunningMoved.{Grows, older, reply-moved, trails-kept}
+use Rattle.gb_laws.proofs.removals.QuietBuses.{next-unmade}
 
 -- ---- trails
 
@@ -97,9 +100,6 @@ longer-aside i c n j d trails other =
 
 -- ---- the next request
 
-pub unmade : (b : Bus) (r : Request) → request_of (next_number b) b ≡ Some r → ⊥
-unmade b r made = absurd (omega (arith, nth-within (next_number b) b.requests r made))
-
 behind-absent : (w : ℕ) (q : List Item) → (IsIn (Ask w) q → ⊥) → NoneBehind w q
 behind-absent w [] none = tt
 behind-absent w (x ∷ xs) none =
@@ -130,7 +130,7 @@ module _ (s t : State) (d : Draft) (label : ℕ) (is : t.bus ≡ sent d label s.
     new-behind x i number =
         let o = older change s.bus k x made (subst (λ (b : Bus). IsIn x b.connections) is i) number
         in let none : IsIn (Ask n) o.was.to_ap → ⊥ =
-        λ j. let w = fits.items.own o.was side.Ap (Ask n) o.live j in unmade s.bus w.0 w.1 in
+        λ j. let w = fits.items.own o.was side.Ap (Ask n) o.live j in next-unmade s.bus w.0 w.1 in
         ⊎_elim (λ e. behind-absent n x.to_ap (λ j. none (subst (λ xs. IsIn (Ask n) xs) e j)))
         (λ q. by o.was.to_ap x.to_ap none q.1) (o.queues side.Ap)
       where
@@ -159,40 +159,40 @@ module _ (s t : State) (d : Draft) (label : ℕ) (is : t.bus ≡ sent d label s.
     unanswered : (p : List ℕ) → Replied old.bus.connections t.bus k n p → ⊥
     unanswered p (inr h) =
         let w = was.items.own h.0 side.Far (Reply n success p) h.1 h.3 in
-        unmade s.bus w.0 (onward n w.0 w.1)
+        next-unmade s.bus w.0 (onward n w.0 w.1)
     unanswered p (inl h) = ⊎_elim
         (λ o. let w = fits.items.own o.0 side.Far (Reply n success p) o.1 o.3 in
-        unmade s.bus w.0 w.1) (λ brings. plain brings.1.1)
+        next-unmade s.bus w.0 w.1) (λ brings. plain brings.1.1)
         (reply-moved s t change is k n made p h)
       where
         plain : Reply n success p ≡ Ask n → ⊥
         plain e = absurd cc
 
     -- What is known of a download that made it.
-    pub run-new : (fit : Fits) (l : Load) (e : Download) (c : Connection) (u : Trail)
-        (front : List ℕ) (mid : ℕ) → l.request ≡ n → IsIn c s.bus.connections → c.number ≡ k
-        → c.peer ≡ end.Module l.intf l.cport → u.connection ≡ k → u.requests ≡ front ++ n ∷ []
+    pub run-new : (told later : List Entry) → Grows told later → (fit : Fits) (l : Load)
+        (e : Download) (c : Connection) (u : Trail) (front : List ℕ) (mid : ℕ) → l.request ≡ n
+        → IsIn c s.bus.connections → c.number ≡ k → c.peer ≡ end.Module l.intf l.cport → u.connection ≡ k → u.requests ≡ front ++ n ∷ []
         → find (is_trail_at l.intf l.cport) t.past.loading ≡ Some u
-        → Each (IsOnTrail s u) front → k ≢ 1 → IsTag e.tag → IsFresh e.awaits e
+        → Each (IsOnTrail told s u) front → k ≢ 1 → IsTag e.tag → IsFresh e.awaits e
         → AsksFor e.awaits e (requested d label)
+        → WasAsked later n (end.Module u.intf u.cport)
         → (WasClean k t → Follow 0 (ranges_of front s.bus) mid
         × Follow mid (range_of (Some (requested d label))) (reached e.awaits e)
         × HasSoFar fit t n k e.awaits e)
-        → Running fit old.bus.connections None t l e
-    run-new fit l e c u front mid request live number peer on requests found trail other tag fresh
-        asked clean = record {
+        → Running fit old.bus.connections None later t l e
+    run-new told later grows fit l e c u front mid request live number peer on requests found trail
+        other tag fresh asked said clean = record {
           trail = u;
           found = found;
-          made = subst (Each (IsOnTrail t u)) (sym requests) (each-append (IsOnTrail t u) front
-              (n ∷ []) (trails-kept s t u u front stay refl trail) (
-                record {
-                  request = requested d label;
-                  is = new;
-                  connection = sym on;
-                  side = far;
-                },
-                tt,
-              ));
+          made = subst (Each (IsOnTrail later t u)) (sym requests)
+              (each-append (IsOnTrail later t u) front (n ∷ [])
+              (trails-kept told later s t u u front grows stay (refl, refl, refl) trail) (record {
+                request = requested d label;
+                is = new;
+                connection = sym on;
+                side = far;
+                asked = said;
+              }, tt));
           request = requested d label;
           is = ap (λ j. request_of j t.bus) request ∙ new;
           connection = sym on;
@@ -227,7 +227,7 @@ module _ (s t : State) (d : Draft) (label : ℕ) (is : t.bus ≡ sent d label s.
             (same-connection s.bus.connections o.was c fits.numbers.rise o.live live
             (o.number ∙ sym number)) ∙ peer
 
-        split : (ns : List ℕ) → Each (IsOnTrail s u) ns
+        split : (ns : List ℕ) → Each (IsOnTrail told s u) ns
             → ranges_of (ns ++ n ∷ []) t.bus
             ≡ ranges_of ns s.bus ++ range_of (Some (requested d label))
         split [] h = append-nil (range_of (request_of n t.bus)) ∙ ap range_of new

@@ -4,6 +4,7 @@ use Rattle.std.proofs.Common.{Bool, List, None, Option, Some, ap, ap₂, arith, 
 use Rattle.std.proofs.Common.{length, refl, subst, sym, true, ℕ, ◌∙◌, ◌≡◌}
 use Rattle.std.specs.Prelude.{option_map}
 use Rattle.gb_base.specs.declared.end.Side.TheVariants as side
+use Rattle.gb_base.specs.declared.entry.Entry.{Entry}
 use Rattle.gb_formats.specs.Loader.{Awaits, Download, piece}
 use Rattle.gb_machine.specs.Bus.{Ask, Connection, Item, Place, Raw, RawReply, Reply, Request, queue}
 use Rattle.gb_machine.specs.Bus.{request_of}
@@ -89,7 +90,7 @@ module _ (m : Moment) (before : List Loose) (fits : BusFits before m.before.bus)
       of (Raw raw) one i made = absurd (not-both false one refl)
 
   module _ (l : Load) (d : Download)
-      (run : Running Free m.before.bus.connections None m.before l d)
+      (run : Running Free m.before.bus.connections None m.told m.before l d)
       (w : WasClean run.trail.connection m.before) where
     -- a FETCH that waits changes nothing where it is served
     part-fits : (id size : ℕ) → HasPart Free m.before l.request run.trail.connection id size d
@@ -155,7 +156,8 @@ module _ (m : Moment) (before : List Loose) (fits : BusFits before m.before.bus)
     }
 
   -- What is known before a moment is known at its first point.
-  pub runs-start : RunAt m.before → AreRunning (FitsAt m) m.before.bus.connections None m.before
+  pub runs-start : RunAt m.told m.before
+      → AreRunning (FitsAt m) m.before.bus.connections None m.told m.before
   runs-start h l i r at d ran =
       let run = h l i r at d ran in record {
         trail = run.trail;
@@ -222,8 +224,8 @@ module _ (fits : ℕ → ℕ → List ℕ → Type 0) (old : List Connection) (s
   }
 
   -- What is known at the last point of a moment is known behind it.
-  pub runs-end : AreRunning fits old None s → RunAt s
-  runs-end h l i r at d ran =
+  pub runs-end : (told : List Entry) → AreRunning fits old None told s → RunAt told s
+  runs-end told h l i r at d ran =
       let run = h l i r at d ran in record {
         trail = run.trail;
         found = run.found;

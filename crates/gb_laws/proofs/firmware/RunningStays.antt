@@ -44,6 +44,7 @@ use Rattle.gb_laws.proofs.firmware.RunningMoved.{far-moved, fetches-moved, keeps
 use Rattle.gb_laws.proofs.firmware.RunningMoved.{trails-kept}
 use Rattle.gb_laws.proofs.firmware.ServedImages.{FetchedFrom, FindAnswered, fetch-answered}
 use Rattle.gb_laws.proofs.firmware.ServedImages.{fetch_bytes, find-answered}
+use Rattle.gb_laws.proofs.opened.OpeningTold.{told-stays}
 use Rattle.gb_laws.proofs.points.ChangeBuses.{bus-is, bus_change, keeps-requests}
 use Rattle.gb_laws.proofs.points.Places.{module-far, place-is}
 use Rattle.gb_laws.proofs.points.PointParts.{Basis, Hand, IsServed, Point}
@@ -248,7 +249,7 @@ module _ (m : Moment) (a : Point) (h : Hand) (l : Load) (d : Download) (request 
 
 -- what an answer to the request says where it comes
 comes : (m : Moment) (a : Point) (x : Change m a) (l : Load) (d : Download) → Onward m a
-    → (run : Running (FitsAt m) m.before.bus.connections a.hand a.state l d)
+    → (run : Running (FitsAt m) m.before.bus.connections a.hand a.told a.state l d)
     → Fetches (FitsAt m) m.before.bus.connections a.hand a.state l.request run.trail d
     → (p : List ℕ) → number_of (bus_change x) ≡ run.trail.connection
     → BringsTo (bus_change x) a.state.bus side.Far (Reply l.request success p)
@@ -289,7 +290,7 @@ comes m a _ l d on run f p at brings = absurd brings
 
 -- none waits behind the request where it is taken
 takes-quiet : (m : Moment) (a : Point) (x : Change m a) (l : Load) (d : Download) → Basis a
-    → (run : Running (FitsAt m) m.before.bus.connections a.hand a.state l d)
+    → (run : Running (FitsAt m) m.before.bus.connections a.hand a.told a.state l d)
     → ((n : ℕ) → number_of (bus_change x) ≡ run.trail.connection
     → BringsTo (bus_change x) a.state.bus side.Ap (Ask n) → ⊥)
     → run.trail.connection ≤ a.state.bus.made
@@ -357,16 +358,18 @@ takes-quiet m a x l d basis run none low f h e ap_side own =
 
 -- What is known of a running download stays where no request comes on its connection.
 pub run-moved : (m : Moment) (a : Point) (x : Change m a) (l : Load) (d : Download) → Basis a
-    → Onward m a → (run : Running (FitsAt m) m.before.bus.connections a.hand a.state l d)
+    → Onward m a → (run : Running (FitsAt m) m.before.bus.connections a.hand a.told a.state l d)
     → ((n : ℕ) → number_of (bus_change x) ≡ run.trail.connection
     → BringsTo (bus_change x) a.state.bus side.Ap (Ask n) → ⊥)
     → find (is_trail_at l.intf l.cport) (changed m a x).state.past.loading
     ≡ find (is_trail_at l.intf l.cport) a.state.past.loading
-    → Running (FitsAt m) m.before.bus.connections (changed m a x).hand (changed m a x).state l d
+    → Running (FitsAt m) m.before.bus.connections (changed m a x).hand (changed m a x).told
+    (changed m a x).state l d
 run-moved m a x l d basis on run none same = record {
   trail = run.trail;
   found = same ∙ run.found;
-  made = trails-kept a.state after run.trail run.trail run.trail.requests stay refl run.made;
+  made = trails-kept a.told (changed m a x).told a.state after run.trail run.trail
+      run.trail.requests (told-stays m a x) stay (refl, refl, refl) run.made;
   request = run.request;
   is = stay l.request run.request run.is;
   connection = run.connection;
@@ -381,7 +384,7 @@ run-moved m a x l d basis on run none same = record {
       fetches-moved a.state after (bus_change x) (bus-is m a x) run.trail.connection l.request low
       (FitsAt m) d none (λ img e. image-kept m a x d.tag img e)
       (λ id suits e. lent-kept m a x run.trail.connection id d.tag suits e)
-      m.before.bus.connections a.hand (changed m a x).hand run.trail refl run.made
+      m.before.bus.connections a.hand (changed m a x).hand a.told run.trail refl run.made
       (comes m a x l d on run f) (takes-quiet m a x l d basis run none low f) f;
 }
   where

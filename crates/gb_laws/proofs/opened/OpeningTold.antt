@@ -35,7 +35,7 @@ abbrev pub OpenedIn : List Entry → Bus → Type 0
 OpenedIn told b = (c : Connection) → IsIn c b.connections → c.number ≢ 1 → WasOpened told c
 
 -- what was told stays
-told-stays : (m : Moment) (a : Point) (x : Change m a) (e : Entry) → IsIn e a.told
+pub told-stays : (m : Moment) (a : Point) (x : Change m a) (e : Entry) → IsIn e a.told
     → IsIn e (changed m a x).told
 told-stays m a drops e i = i
 told-stays m a x e i = in-front e a.told _ i

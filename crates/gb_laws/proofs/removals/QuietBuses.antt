@@ -138,7 +138,7 @@ replied-put a s x k basis there one =
 -- ---- what is new
 
 -- no item has the number of the next request
-next-unmade : (b : Bus) (r : Request) → request_of (next_number b) b ≡ Some r → ⊥
+pub next-unmade : (b : Bus) (r : Request) → request_of (next_number b) b ≡ Some r → ⊥
 next-unmade b r e = omega (arith, nth-within (next_number b) b.requests r e)
 
 pub next-unreplied : (a : Point) → Basis a → There a.state.bus → (x : Item)
