@@ -1,7 +1,6 @@
 -- While a request waits for a connection that is known no more, the power level of its interface is
 -- at most 1: a law of points.
 use Rattle.std.proofs.Common.{ap, arith, inl, inr, refl, subst, sym, true, ℕ, ⊎_elim, ◌∙◌, ◌≡◌, ◌≤◌}
-use Rattle.gb_base.specs.declared.end.Side.TheVariants as side
 use Rattle.gb_machine.specs.Sending.{Draft, requested, sent}
 use Rattle.gb_machine.specs.{Ports.level_of, Refusals.is_reserved, Runs.Moment}
 use Rattle.gb_machine.specs.{SvcQueues.is_enumeration_request}

@@ -28,7 +28,7 @@ use Rattle.gb_invariants.proofs.{Selves.ap-no-far}
 use Rattle.gb_laws.proofs.credits.CreditsLines.{Moved, in-linked, old, other-number}
 use Rattle.gb_laws.proofs.credits.CreditsMoved.{back-far, back-untold, count-read, if-zero}
 use Rattle.gb_laws.proofs.credits.CreditsMoved.{plain-links}
-use Rattle.gb_laws.proofs.credits.CreditsMoved.{popped-request, sent-other, stayed}
+use Rattle.gb_laws.proofs.credits.CreditsMoved.{sent-other, stayed}
 use Rattle.gb_laws.proofs.credits.CreditsServed.{DoesAs, HandlesAs, IsPlainly, UartServed}
 use Rattle.gb_laws.proofs.credits.CreditsServed.{comes_back}
 use Rattle.gb_laws.proofs.credits.CreditsServed.{drops_it, handles-does, nothing_back, takes_it}
@@ -40,6 +40,7 @@ use Rattle.gb_laws.proofs.{links.Links.SameLink, points.Places.place-is}
 use Rattle.gb_laws.proofs.{points.PointParts.IsServed, points.Points.IsBridge}
 use Rattle.gb_laws.proofs.{links.Removing.delivered-state}
 use Rattle.gb_laws.proofs.{runs.SettleQueues.IsFarEnd, links.Turned.svc-host}
+use Rattle.gb_laws.proofs.{steps.DeliveredHands.request-popped}
 
 -- the front item at a place was taken
 abbrev with_taken : Place → State → State
@@ -259,7 +260,7 @@ module _ (m : Moment) (one : IsMoment m.event) (start : LinkedTo m.told m.before
 
       moved-uart : (l : Link) → IsIn l (after m).host.links → Moved m l
       moved-uart = by (handles-does p.connection item q (with_taken p m.before)
-          (popped-request item p.connection.number p.side m.before.bus ∙ made) serve.1)
+          (request-popped item p.connection.number p.side m.before.bus ∙ made) serve.1)
         where
           serve : UartServed k m.before.host (read_uart_ask_of_module q.kind q.payload)
               (host_serves p.connection.number q.kind q.payload m.before.host)

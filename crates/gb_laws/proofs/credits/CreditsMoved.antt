@@ -3,7 +3,7 @@ use Rattle.std.proofs.Common.{Bool, List, Some, ap, arith, cond, false, refl, su
 use Rattle.std.proofs.Common.{⊎_elim, ◌∙◌, ◌≡◌}
 use Rattle.std.specs.List.{list_any}
 use Rattle.std.specs.Prelude.{Err, Ok, Result, is_none, ◌&&◌, ◌==◌}
-use Rattle.gb_base.specs.declared.end.{End.End, Side.Side}
+use Rattle.gb_base.specs.declared.end.{End.End}
 use Rattle.gb_base.specs.declared.end.End.TheVariants as end
 use Rattle.gb_base.specs.declared.event.Event.{Event}
 use Rattle.gb_base.specs.declared.event.Event.TheVariants as event
@@ -15,14 +15,14 @@ use Rattle.gb_formats.specs.UartRecords.{read_uart_ask_of_module, uart_asks}
 use Rattle.gb_formats.specs.{Bridges.credits_taken, GpioRecords.GpioAsk}
 use Rattle.gb_formats.specs.{GpioRecords.read_gpio_ask_of_module}
 use Rattle.gb_machine.proofs.Opened.{machine_opened}
-use Rattle.gb_machine.specs.Bus.{Ask, Bus, Item, Raw, RawReply, Reply, place_of}
+use Rattle.gb_machine.specs.Bus.{place_of}
 use Rattle.gb_machine.specs.HostServing.{HostServed, host_refuses, interrupted, served_on}
 use Rattle.gb_machine.specs.HostServing.{serves_firmware, serves_gpio, serves_uart}
 use Rattle.gb_machine.specs.LawsCredits.{bytes_sent, count_in, count_on, credits_back, is_credits}
 use Rattle.gb_machine.specs.LawsCredits.{is_numbered}
 use Rattle.gb_machine.specs.Runs.{IsMoment, Moment, after, told_at}
-use Rattle.gb_machine.specs.{Delivery.popped, Events.decided, Host.Host, Host.link_at}
-use Rattle.gb_machine.specs.{Incoming.request_in, Members.IsIn, Refusals.refusal}
+use Rattle.gb_machine.specs.{Events.decided, Host.Host, Host.link_at}
+use Rattle.gb_machine.specs.{Members.IsIn, Refusals.refusal}
 use Rattle.gb_machine.specs.{Serving.protocol_bad, State.State}
 use Rattle.gb_invariants.proofs.Outcomes.{same-number}
 use Rattle.gb_laws.proofs.credits.CreditsKept.{IsCreditless, IsKept, credits-start, credits_law}
@@ -106,14 +106,6 @@ plain-links l kind payload h other =
     gpio (Err fault) = refl
     gpio (Ok (GpioAsk.IrqEvent which)) = refl
     gpio (Ok _) = refl
-
--- a request is the same once an item was taken
-pub popped-request : (item : Item) (k : ℕ) (at : Side) (b : Bus)
-    → request_in item (popped k at b) ≡ request_in item b
-popped-request (Ask n) k at b = refl
-popped-request (Raw bytes) k at b = refl
-popped-request (Reply n result payload) k at b = refl
-popped-request (RawReply label kind result payload) k at b = refl
 
 -- what a module's request counts is what it is read to
 pub count-read : (kind : ℕ) (payload : List ℕ) (count : ℕ)

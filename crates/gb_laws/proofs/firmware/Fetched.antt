@@ -48,6 +48,7 @@ use Rattle.gb_laws.proofs.points.Places.{IsPlace, place-is}
 use Rattle.gb_laws.proofs.runs.AllRuns.{at-all}
 use Rattle.gb_laws.proofs.runs.Runs.{HoldsAtMoments, at_each}
 use Rattle.gb_laws.proofs.runs.SettleQueues.{IsFarEnd}
+use Rattle.gb_laws.proofs.steps.DeliveredHands.{request-popped}
 use Rattle.gb_laws.proofs.together.Absent.{far-end}
 
 -- ---- what is told where a request is served
@@ -188,14 +189,7 @@ module _ (m : Moment) (at : End) (p : Place) (item : Item) (q : Incoming)
   })).entries
   popped-tells side.Ap e = handles-tells p.connection item q (record m.before {
     bus = popped p.connection.number side.Ap m.before.bus;
-  }) (popped-made item made) plain
-    where
-      popped-made : (x : Item) → request_in x m.before.bus ≡ Some q
-          → request_in x (popped p.connection.number side.Ap m.before.bus) ≡ Some q
-      popped-made (Ask n) e = e
-      popped-made (Raw bytes) e = e
-      popped-made (Reply n result payload) e = e
-      popped-made (RawReply label kind result payload) e = e
+  }) (request-popped item p.connection.number side.Ap m.before.bus ∙ made) plain
   popped-tells side.Far e = absurd cc
 
   other : {x : Entry} (es : List Entry) → is_reply x ≡ false → Tells es → Tells (x ∷ es)

@@ -347,7 +347,8 @@ module _ (m : Moment) (a : Point) (rested : RunAt m.told m.before)
           (sym free)
           (run-new a.state after d label refl (loose a) basis.bus before m.before was on.requests
           going.3.0 made a.told (changed m a (asks d c label free live drawn who)).told
-          (told-stays m a (asks d c label free live drawn who)) (FitsAt m) load went.download c trail
+          (told-stays m a (asks d c label free live drawn who)) (FitsAt m) load went.download c
+          trail
           h.run.trail.requests (reached h.answered.download.awaits h.answered.download) refl
           c_live.0 c_live.1 going.1 (sym number) refl
           (longer-found i p (next_number a.state.bus) a.state.past.loading h.run.trail found)

@@ -46,7 +46,8 @@ asked-kept told more n from grows h = record {
 }
 
 trail-kept : (told more : List Entry) (s after : State) (t u : Trail) (n : ℕ) → Grows told more
-    → KeepsRequests s.bus after.bus → SameTrail t u → IsOnTrail told s t n → IsOnTrail more after u n
+    → KeepsRequests s.bus after.bus → SameTrail t u → IsOnTrail told s t n
+    → IsOnTrail more after u n
 trail-kept told more s after t u n grows keeps same h = record {
   request = h.request;
   is = keeps n h.request h.is;

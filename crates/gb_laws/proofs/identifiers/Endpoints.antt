@@ -6,7 +6,8 @@ use Rattle.gb_machine.specs.Bus.{Bus, Connection, same_end}
 use Rattle.gb_machine.specs.Members.{Each, EachTwo, IsIn}
 use Rattle.gb_machine.specs.Turns.{Act, Asking, Making}
 use Rattle.gb_machine.specs.{Host.Host, LawsBus.AreApart, LawsBus.HaveOwnEnds, Runs.Moment}
-use Rattle.gb_machine.specs.{State.State, State.first_state, Wiring.new_connection, Wiring.next_connection}
+use Rattle.gb_machine.specs.{State.State, State.first_state, Wiring.new_connection}
+use Rattle.gb_machine.specs.{Wiring.next_connection}
 use Rattle.gb_invariants.proofs.{Awaiting.same-some, BusChanges.apart-after, BusChanges.made_by}
 use Rattle.gb_invariants.proofs.{Lists.each-from, Lists.each-in}
 use Rattle.gb_invariants.specs.Facts.{IsMade}

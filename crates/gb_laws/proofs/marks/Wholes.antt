@@ -3,7 +3,7 @@ use Rattle.std.proofs.Common.{Bool, List, None, Option, Some, ap, arith, false, 
 use Rattle.std.proofs.Common.{sym, true, zero, ℕ, ⊎_elim, ◌+◌, ◌<◌, ◌∙◌, ◌∷◌, ◌≡◌, ◌≢◌, ◌≤◌}
 use Rattle.std.proofs.lemmas.Bool.Decides.{nat_tests}
 use Rattle.std.specs.List.{find}
-use Rattle.std.specs.Prelude.{is_some, nat_le, nat_lt, option_map, ◌&&◌, ◌==◌}
+use Rattle.std.specs.Prelude.{is_some, nat_le, nat_lt, option_map, ◌==◌}
 use Rattle.gb_machine.specs.{Lists.span, Members.EachTwo, Members.IsIn, Modules.is_plugged}
 use Rattle.gb_machine.specs.{Modules.is_plugged_at, State.Plugged}
 use Rattle.gb_machine.specs.Lists.{at_first}

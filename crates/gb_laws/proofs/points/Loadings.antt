@@ -1,6 +1,6 @@
 -- What becomes of firmware devices at a point: their requests, and why their downloads begin, go on
 -- and are done.
-use Rattle.std.specs.Prelude.{Bool, List, None, Option, Some, false, option_and_then, option_map}
+use Rattle.std.specs.Prelude.{List, None, Option, Some, false, option_and_then, option_map}
 use Rattle.std.specs.Prelude.{true, ℕ, ◌==◌, ◌≡◌, ◌⊎◌}
 use Rattle.gb_base.specs.declared.download.Next.{Next}
 use Rattle.gb_base.specs.declared.download.Next.TheVariants as next
@@ -14,7 +14,7 @@ use Rattle.gb_formats.specs.Loader.{Loader, find_ask, first_loader, is_running, 
 use Rattle.gb_formats.specs.Module.{Module}
 use Rattle.gb_formats.specs.ModuleLoads.{loader_at, module_ended, module_load}
 use Rattle.gb_formats.specs.Results.{success}
-use Rattle.gb_machine.specs.Bus.{Bus, Connection, Item, Place, Reply, Request, is_open, place_of}
+use Rattle.gb_machine.specs.Bus.{Connection, Item, Place, Reply, Request, is_open, place_of}
 use Rattle.gb_machine.specs.Bus.{queue, request_of}
 use Rattle.gb_machine.specs.Lists.{first, without}
 use Rattle.gb_machine.specs.Loading.{last_asked, longer_trail, first_trail, load_of}

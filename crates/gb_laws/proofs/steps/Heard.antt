@@ -48,8 +48,11 @@ answers-own h n loose b fits (by_label label dirty is) =
 -- an answer of success has its payload
 success-payload : (result : ℕ) (payload bytes : List ℕ)
     → answered result payload ≡ outcome.Answered success bytes → (result ≡ 0) × (payload ≡ bytes)
-success-payload result payload bytes e = (zero_of e, by (result == 0) (ap (λ r. r == 0) (zero_of e))
-    (bytes_of e))
+success-payload result payload bytes e = (
+  zero_of e,
+  by (result == 0) (ap (λ r. r == 0) (zero_of e))
+      (bytes_of e),
+)
   where
     zero_of : outcome.Answered result (cond (result == 0) payload []) ≡ outcome.Answered 0 bytes
         → result ≡ 0

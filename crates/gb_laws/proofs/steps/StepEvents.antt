@@ -178,13 +178,16 @@ module _ (m : Moment) (law : Law m) where
           rests-▸ m law (change (λ w. record w { modules = with_module i t.after w.modules }))
           (by_state (λ w. given (module_place i c w)
           (λ p. far_asks_all p.connection.number t.asks))) s
-          (λ told at. law.kept _ (others s.booted s.holds s.ports (with_module i t.after s.modules)
-          (inl (
-            module-plugs s i t.after,
-            as_before refl,
-            record { hand = refl; pending = refl; asked = refl },
-            λ k n. inl n,
-          ), keeps-module i t.after x s.modules there keeps.0)) at)
+          (λ told at. law.kept _ (others s.booted s.holds s.ports
+          (with_module i t.after s.modules) (
+            inl (
+              module-plugs s i t.after,
+              as_before refl,
+              record { hand = refl; pending = refl; asked = refl },
+              λ k n. inl n,
+            ),
+            keeps-module i t.after x s.modules there keeps.0,
+          )) at)
           (placed t (stir-low x c stir t is)
           (record s { modules = with_module i t.after s.modules })
           (ap (option_and_then (λ y. loader_at y c)) (module-there i t.after x s.modules there)
@@ -203,12 +206,15 @@ module _ (m : Moment) (law : Law m) where
           → Rests m law (given o (λ p. change (with_hold p.connection.number))) s
       by None e = rests-nothing m law s
       by (Some p) e = λ told at. law.kept _ (others s.booted (marked p.connection.number s.holds)
-          s.ports s.modules (inl (
-            same-plugs s,
-            as_before refl,
-            record { hand = refl; pending = refl; asked = refl },
-            place-marked i c s p e,
-          ), same-loaders s.modules)) at
+          s.ports s.modules (
+            inl (
+              same-plugs s,
+              as_before refl,
+              record { hand = refl; pending = refl; asked = refl },
+              place-marked i c s p e,
+            ),
+            same-loaders s.modules,
+          )) at
 
   -- an image is given
   pub rests-gives : (tag bytes : List ℕ) → m.event ≡ event.Image tag bytes

@@ -110,12 +110,15 @@ module _ (m : Moment) (law : Law m) where
   unfolding machine_opened
   rests-failed wires i c x y tag s there keeps =
       goes-▸ m (acting m law) (change (with_failed i y)) (tell (entry.Download i c tag None))
-      (λ told at. law.kept _ (others s.booted s.holds s.ports (with_module i y s.modules) (inl (
-        module-plugs s i y,
-        as_before refl,
-        record { hand = refl; pending = refl; asked = refl },
-        λ k n. inl n,
-      ), keeps-module i y x s.modules there keeps)) at)
+      (λ told at. law.kept _ (others s.booted s.holds s.ports (with_module i y s.modules) (
+        inl (
+          module-plugs s i y,
+          as_before refl,
+          record { hand = refl; pending = refl; asked = refl },
+          λ k n. inl n,
+        ),
+        keeps-module i y x s.modules there keeps,
+      )) at)
       (goes-tell m (acting m law) None [] wires (entry.Download i c tag None)
       (with_failed i y s) refl)
 

@@ -75,11 +75,14 @@ module _ (m : Moment) (law : Law m) where
   rests-plugged_all of (p ∷ ps) first s =
       rests-▸ (change (with_plugged p)) (each ps (λ p. change (with_plugged p))) s
       (λ told at. law.kept _ (others s.booted s.holds (with_plugged p s).ports
-      (with_plugged p s).modules (inr (
-        of,
-        λ j. powered-off p.intf j s.ports (p.intf == j),
-        λ k n. inl n,
-      ), keeps-plugged p s.modules first.0)) at)
+      (with_plugged p s).modules (
+        inr (
+          of,
+          λ j. powered-off p.intf j s.ports (p.intf == j),
+          λ k n. inl n,
+        ),
+        keeps-plugged p s.modules first.0,
+      )) at)
       (rests-plugged_all of ps first.1 (with_plugged p s))
 
   pub rests-plugs : IsOfSvc m.event → (i : ℕ) (ms : List Module) → Each AreFirst ms → (s : State)

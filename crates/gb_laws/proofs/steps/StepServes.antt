@@ -53,13 +53,15 @@ module _ (m : Moment) (law : Law m) where
       ends-going m law (module_stepped k i step).behind (goes-▸ m (acting m law)
       (change (λ t. record t { modules = with_module i step.after t.modules }))
       (far_asks_all k step.served.asks)
-      (λ told at. law.kept _ (others s.booted s.holds s.ports (with_module i step.after s.modules)
-      (inl (
-        module-plugs s i step.after,
-        as_before refl,
-        record { hand = refl; pending = refl; asked = refl },
-        λ k i. inl i,
-      ), keeps-module i step.after x s.modules there keeps)) at)
+      (λ told at. law.kept _ (others s.booted s.holds s.ports (with_module i step.after s.modules) (
+        inl (
+          module-plugs s i step.after,
+          as_before refl,
+          record { hand = refl; pending = refl; asked = refl },
+          λ k i. inl i,
+        ),
+        keeps-module i step.after x s.modules there keeps,
+      )) at)
       (goes-far_asks_all m (acting m law) [] Untouched i c k step.served.asks
       (record s { modules = with_module i step.after s.modules }) to low
       (⊎_elim (λ e. inl e) (λ e. inr (ap (option_and_then (λ y. loader_at y c))

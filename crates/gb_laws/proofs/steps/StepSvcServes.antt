@@ -46,18 +46,21 @@ module _ (m : Moment) (law : Law m) where
   unfolding machine_opened
   ends-ports {ports} s from powered told at = (
     Untouched,
-    law.kept _ (others s.booted s.holds ports s.modules (inl (
-      record {
-        started = refl;
-        plugged = λ i. refl;
-        powered = powered;
-        differ = λ h. h;
-        whole = λ h. h;
-      },
-      from,
-      record { hand = refl; pending = refl; asked = refl },
-      λ k i. inl i,
-    ), same-loaders s.modules)) at,
+    law.kept _ (others s.booted s.holds ports s.modules (
+      inl (
+        record {
+          started = refl;
+          plugged = λ i. refl;
+          powered = powered;
+          differ = λ h. h;
+          whole = λ h. h;
+        },
+        from,
+        record { hand = refl; pending = refl; asked = refl },
+        λ k i. inl i,
+      ),
+      same-loaders s.modules,
+    )) at,
   )
 
   pub ends-nothing : {s : State} → Ends None nothing s

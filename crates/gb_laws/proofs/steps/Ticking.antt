@@ -282,11 +282,14 @@ module _ (m : Moment) (law : Law m) where
             (append-nil (told ++ []))
             (law.kept _ (unloads i of (none-unplugged i w.modules))
             (law.kept _ (others w.booted w.holds (with_pulled i w).ports
-            (with_pulled i w).modules (inr (
-              of,
-              λ j. unpowered-off i j w.ports (j == i) refl,
-              λ k n. inl n,
-            ), keeps-unplugged i w.modules)) u.holds));
+            (with_pulled i w).modules (
+              inr (
+                of,
+                λ j. unpowered-off i j w.ports (j == i) refl,
+                λ k n. inl n,
+              ),
+              keeps-unplugged i w.modules,
+            )) u.holds));
       }
 
   cuts-nothing : (s : State) → Cuts nothing s
