@@ -1,6 +1,7 @@
 -- What the machine's step is for each event, one equation for each way that it goes.
-use Rattle.std.proofs.Common.{◌≡◌, ℕ, suc, ◌+◌, true, false, if◌then◌else◌, Some, None}
-use Rattle.std.proofs.Common.{is_none, List, [], ◌∷◌, ◌++◌, refl, ap, ◌∙◌}
+use Rattle.std.proofs.Common.{◌≡◌, ℕ, suc, ◌+◌, Bool, true, false, if◌then◌else◌, Option, Some, None}
+use Rattle.std.proofs.Common.{is_none, List, [], ◌∷◌, ◌++◌, append-nil, refl, sym, ap, ◌∙◌}
+use Rattle.gb_base.specs.declared.bridge.Reading.TheVariants as reading
 use Rattle.gb_base.specs.declared.end.End.{End}
 use Rattle.gb_base.specs.declared.end.Side.{Side}
 use Rattle.gb_base.specs.declared.end.Side.TheVariants as side
@@ -8,24 +9,34 @@ use Rattle.gb_base.specs.declared.entry.Entry.{Entry}
 use Rattle.gb_base.specs.declared.entry.Entry.TheVariants as entry
 use Rattle.gb_base.specs.declared.event.Event.{Event}
 use Rattle.gb_base.specs.declared.event.Event.TheVariants as event
+use Rattle.gb_base.specs.declared.outcome.Outcome.TheVariants as outcome
 use Rattle.gb_base.specs.declared.refusal.Refusal.{Refusal}
+use Rattle.gb_base.specs.declared.served.OwnAsk.{OwnAsk}
+use Rattle.gb_formats.specs.Grammar.{default_timeout}
+use Rattle.gb_formats.specs.Loader.{find_ask}
+use Rattle.gb_formats.specs.Module.{Module}
+use Rattle.gb_formats.specs.ModuleLoads.{module_load}
 use Rattle.gb_machine.proofs.Opened.{machine_opened}
 use Rattle.gb_machine.proofs.Conditions.{unrefused}
-use Rattle.gb_machine.specs.Actions.{Told, by_state, given, on_bus, tell, ◌▸◌}
+use Rattle.gb_machine.specs.Actions.{Action, Told, by_state, change, given, on_bus, tell, when}
+use Rattle.gb_machine.specs.Actions.{◌▸◌}
 use Rattle.gb_machine.specs.Arriving.{arrives, asked_at, by_label, by_number, delivers, delivers_at}
 use Rattle.gb_machine.specs.Arriving.{dropped, ends_answered, forgets, handles, is_held}
 use Rattle.gb_machine.specs.Arriving.{keeps, takes}
+use Rattle.gb_machine.specs.Asking.{asked, asks, asks_with}
 use Rattle.gb_machine.specs.Bus.{Ask, Bus, Connection, Item, Place, Reply, Request}
-use Rattle.gb_machine.specs.Bus.{is_open, place_of, queue, request_of}
+use Rattle.gb_machine.specs.Bus.{connection_of, is_open, next_number, place_of, queue, request_of}
 use Rattle.gb_machine.specs.Delivery.{forgotten, popped}
 use Rattle.gb_machine.specs.Events.{decided, does, step}
 use Rattle.gb_machine.specs.Incoming.{incoming}
 use Rattle.gb_machine.specs.Lists.{first, holds_of}
-use Rattle.gb_machine.specs.Names.{named}
+use Rattle.gb_machine.specs.Loading.{asks_next, begins, with_begun, with_next}
+use Rattle.gb_machine.specs.OwnAsking.{far_asks}
 use Rattle.gb_machine.specs.Refusals.{deliver_conditions, has_nothing, is_end_unplugged, refusal}
 use Rattle.gb_machine.specs.Responding.{serves}
+use Rattle.gb_machine.specs.Sending.{Draft, draft, is_wired, label_for, sent}
 use Rattle.gb_machine.specs.Settling.{settles_at, settles_from}
-use Rattle.gb_machine.specs.State.{State}
+use Rattle.gb_machine.specs.State.{Load, Past, Plugged, State}
 use Rattle.gb_machine.specs.Waiting.{first_waiting}
 
 -- a state and entries
@@ -203,6 +214,82 @@ pub settles-end : (s : State) (done : ℕ) → settles_from 0 done s ≡ told s 
 unfolding machine_opened
 settles-end s done = refl
 
--- ---- names
+-- ---- firmware downloads
 
--- ---- cancels
+-- the state with other modules, last requests of firmware devices and past
+abbrev pub beside : List Plugged → List Load → Past → State → State
+beside ms ls p s = record s { modules = ms; loads = ls; past = p }
+
+-- what a request that is made changes, and tells, is a matter of the bus alone
+asks-beside : (d : Draft) (ms : List Plugged) (ls : List Load) (p : Past) (s : State)
+    → asks d (beside ms ls p s)
+    ≡ told (with_bus (asks d s).state.bus (beside ms ls p s)) (asks d s).entries
+unfolding machine_opened
+asks-beside d ms ls p s = by (connection_of d.connection s.bus) (label_for d s.bus)
+  where
+    at : Option Connection → Option ℕ → State → Told
+    at c l = given c (λ c. given l (λ label. asks_with d c label))
+
+    oneway : (t : Bool) (e f : Entry) (b : Bus)
+        → (on_bus (λ a. b) ▸ tell e ▸ when t (tell f)) (beside ms ls p s)
+        ≡ told (with_bus ((on_bus (λ a. b) ▸ tell e ▸ when t (tell f)) s).state.bus
+        (beside ms ls p s)) ((on_bus (λ a. b) ▸ tell e ▸ when t (tell f)) s).entries
+    oneway true e f b = refl
+    oneway false e f b = refl
+
+    by : (c : Option Connection) (l : Option ℕ) → at c l (beside ms ls p s)
+        ≡ told (with_bus (at c l s).state.bus (beside ms ls p s)) (at c l s).entries
+    by None l = refl
+    by (Some c) None = refl
+    by (Some c) (Some label) =
+        oneway d.oneway (asked d c label s.bus)
+        (entry.Ended (next_number s.bus) outcome.Sent reading.Nothing) (sent d label s.bus)
+
+far_asks-beside : (k : ℕ) (own : OwnAsk) (ms : List Plugged) (ls : List Load) (p : Past)
+    (s : State) → far_asks k own (beside ms ls p s)
+    ≡ told (with_bus (far_asks k own s).state.bus (beside ms ls p s)) (far_asks k own s).entries
+unfolding machine_opened
+far_asks-beside k own ms ls p s = by (is_wired (connection_of k s.bus))
+  where
+    ask : Action
+    ask = asks (draft k side.Far own.kind own.payload (s.now + default_timeout) own.oneway)
+
+    by : (t : Bool) → when t ask (beside ms ls p s)
+        ≡ told (with_bus (when t ask s).state.bus (beside ms ls p s)) (when t ask s).entries
+    by true = asks-beside
+        (draft k side.Far own.kind own.payload (s.now + default_timeout) own.oneway) ms ls p s
+    by false = refl
+
+-- so such a change behind a request of a far side might be made before it
+changed-first : (k : ℕ) (own : OwnAsk) (f : State → State) (ms : List Plugged) (ls : List Load)
+    (p : Past) (s : State) → ((b : Bus) → f (with_bus b s) ≡ beside ms ls p (with_bus b s))
+    → (far_asks k own ▸ change f) s ≡ far_asks k own (beside ms ls p s)
+unfolding machine_opened
+changed-first k own f ms ls p s same =
+    let t = far_asks k own s in
+    ap (λ (w : Told). told (f w.state) (t.entries ++ []))
+    (far_asks-beside k own s.modules s.loads s.past s)
+    ∙ ap (λ u. told u (t.entries ++ [])) (same t.state.bus)
+    ∙ ap (told (beside ms ls p (with_bus t.state.bus s))) (append-nil t.entries)
+    ∙ sym (far_asks-beside k own ms ls p s)
+
+-- a download that begins changes the module, and then asks
+pub begins-first : (i c : ℕ) (tag : List ℕ) (k : ℕ) (m : Module) (s : State)
+    → begins i c tag k m s
+    ≡ far_asks k (find_ask tag) (with_begun i c k (next_number s.bus) (module_load m c tag) s)
+unfolding machine_opened
+begins-first i c tag k m s =
+    let n = next_number s.bus in
+    let t = with_begun i c k n (module_load m c tag) s in
+    changed-first k (find_ask tag) (with_begun i c k n (module_load m c tag)) t.modules t.loads
+    t.past s (λ b. refl)
+
+-- and so does one that goes on
+pub asks_next-first : (label k i c : ℕ) (own : OwnAsk) (m : Module) (s : State)
+    → asks_next (Some label) k i c own m s
+    ≡ far_asks k own (with_next i c (next_number s.bus) m s)
+unfolding machine_opened
+asks_next-first label k i c own m s =
+    let n = next_number s.bus in
+    let t = with_next i c n m s in
+    changed-first k own (with_next i c n m) t.modules t.loads t.past s (λ b. refl)
