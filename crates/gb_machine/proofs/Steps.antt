@@ -1,6 +1,6 @@
 -- What the machine's step is for each event, one equation for each way that it goes.
-use Rattle.std.proofs.Common.{◌≡◌, ℕ, suc, ◌+◌, Bool, true, false, if◌then◌else◌, Option, Some, None}
-use Rattle.std.proofs.Common.{is_none, List, [], ◌∷◌, ◌++◌, append-nil, refl, sym, ap, ◌∙◌}
+use Rattle.std.proofs.Common.{◌≡◌, ℕ, suc, ◌+◌, Bool, true, false, if◌then◌else◌, Option, Some}
+use Rattle.std.proofs.Common.{None, is_none, List, [], ◌∷◌, ◌++◌, append-nil, refl, sym, ap, ◌∙◌}
 use Rattle.gb_base.specs.declared.bridge.Reading.TheVariants as reading
 use Rattle.gb_base.specs.declared.end.End.{End}
 use Rattle.gb_base.specs.declared.end.Side.{Side}
@@ -9,17 +9,22 @@ use Rattle.gb_base.specs.declared.entry.Entry.{Entry}
 use Rattle.gb_base.specs.declared.entry.Entry.TheVariants as entry
 use Rattle.gb_base.specs.declared.event.Event.{Event}
 use Rattle.gb_base.specs.declared.event.Event.TheVariants as event
+use Rattle.gb_base.specs.declared.host_event.HostEvent.{HostEvent}
+use Rattle.gb_base.specs.declared.host_event.HostEvent.TheVariants as host_event
+use Rattle.gb_base.specs.declared.outcome.Outcome.{Outcome}
 use Rattle.gb_base.specs.declared.outcome.Outcome.TheVariants as outcome
+use Rattle.gb_base.specs.declared.peers.Link.{Link}
 use Rattle.gb_base.specs.declared.refusal.Refusal.{Refusal}
 use Rattle.gb_base.specs.declared.served.OwnAsk.{OwnAsk}
+use Rattle.gb_base.specs.declared.steps.Purpose.{Purpose}
 use Rattle.gb_formats.specs.Grammar.{default_timeout}
 use Rattle.gb_formats.specs.Loader.{find_ask}
 use Rattle.gb_formats.specs.Module.{Module}
 use Rattle.gb_formats.specs.ModuleLoads.{module_load}
 use Rattle.gb_machine.proofs.Opened.{machine_opened}
 use Rattle.gb_machine.proofs.Conditions.{unrefused}
-use Rattle.gb_machine.specs.Actions.{Action, Told, by_state, change, given, on_bus, tell, when}
-use Rattle.gb_machine.specs.Actions.{◌▸◌}
+use Rattle.gb_machine.specs.Actions.{Action, Told, by_state, change, each, given, on_bus, tell}
+use Rattle.gb_machine.specs.Actions.{when, ◌▸◌}
 use Rattle.gb_machine.specs.Arriving.{arrives, asked_at, by_label, by_number, delivers, delivers_at}
 use Rattle.gb_machine.specs.Arriving.{dropped, ends_answered, forgets, handles, is_held}
 use Rattle.gb_machine.specs.Arriving.{keeps, takes}
@@ -28,15 +33,25 @@ use Rattle.gb_machine.specs.Bus.{Ask, Bus, Connection, Item, Place, Reply, Reque
 use Rattle.gb_machine.specs.Bus.{connection_of, is_open, next_number, place_of, queue, request_of}
 use Rattle.gb_machine.specs.Delivery.{forgotten, popped}
 use Rattle.gb_machine.specs.Events.{decided, does, step}
+use Rattle.gb_machine.specs.Host.{link_at}
+use Rattle.gb_machine.specs.HostActs.{acts, asked_with, host_asks, host_draft, host_follows}
+use Rattle.gb_machine.specs.HostActs.{idles, idles_behind, made_for, notices, opened_with}
+use Rattle.gb_machine.specs.HostActs.{with_awaited, with_made}
+use Rattle.gb_machine.specs.HostTurns.{host_turn}
 use Rattle.gb_machine.specs.Incoming.{incoming}
+use Rattle.gb_machine.specs.Labels.{next_label}
 use Rattle.gb_machine.specs.Lists.{first, holds_of}
 use Rattle.gb_machine.specs.Loading.{asks_next, begins, with_begun, with_next}
 use Rattle.gb_machine.specs.OwnAsking.{far_asks}
 use Rattle.gb_machine.specs.Refusals.{deliver_conditions, has_nothing, is_end_unplugged, refusal}
+use Rattle.gb_machine.specs.Requests.{is_idle, same_side}
 use Rattle.gb_machine.specs.Responding.{serves}
 use Rattle.gb_machine.specs.Sending.{Draft, draft, is_wired, label_for, sent}
+use Rattle.gb_machine.specs.SequenceSteps.{is_for_connection}
 use Rattle.gb_machine.specs.Settling.{settles_at, settles_from}
 use Rattle.gb_machine.specs.State.{Load, Past, Plugged, State}
+use Rattle.gb_machine.specs.Turns.{Act, Asking}
+use Rattle.gb_machine.specs.Waits.{awaits}
 use Rattle.gb_machine.specs.Waiting.{first_waiting}
 
 -- a state and entries
@@ -293,3 +308,81 @@ asks_next-first label k i c own m s =
     let n = next_number s.bus in
     let t = with_next i c n m s in
     changed-first k own (with_next i c n m) t.modules t.loads t.past s (λ b. refl)
+
+-- what the application processor does leaves the last requests of firmware devices
+asks-loads : (d : Draft) (s : State) → (asks d s).state.loads ≡ s.loads
+asks-loads d s =
+    ap (λ (t : Told). t.state.loads) (asks-beside d s.modules s.loads s.past s)
+
+awaited-loads : (p : Purpose) (n : ℕ) (s : State) → (with_awaited p n s).loads ≡ s.loads
+awaited-loads p n s = by (is_for_connection p.step)
+  where
+    t : State
+    t = record s { host = awaits p n s.host }
+
+    made : (o : Option Link) → (made_for n o t).loads ≡ s.loads
+    made None = refl
+    made (Some l) = refl
+
+    by : (b : Bool)
+        → (if b then made_for n (link_at p.intf p.cport t.host) t else t).loads ≡ s.loads
+    by true = made (link_at p.intf p.cport t.host)
+    by false = refl
+
+host_asks-loads : (q : Asking) (s : State) → (host_asks q s).state.loads ≡ s.loads
+unfolding machine_opened
+host_asks-loads q s = by (next_label q.on side.Ap s.bus)
+  where
+    by : (o : Option ℕ) → (asked_with o q s).state.loads ≡ s.loads
+    by None = refl
+    by (Some label) =
+        awaited-loads q.purpose (next_number s.bus) (asks (host_draft q s.now) s).state
+        ∙ asks-loads (host_draft q s.now) s
+
+act-loads : (a : Act) (s : State) → (acts a s).state.loads ≡ s.loads
+unfolding machine_opened
+act-loads (Act.Ask q) s = host_asks-loads q s
+act-loads (Act.Open m q) s = by (next_label q.on side.Ap s.bus)
+  where
+    by : (o : Option ℕ) → (opened_with o m q s).state.loads ≡ s.loads
+    by None = refl
+    by (Some label) = host_asks-loads q (with_made m s)
+act-loads (Act.Shut k) s = refl
+act-loads (Act.Leave k) s = refl
+act-loads (Act.Tell e) s = refl
+
+acts-loads : (all : List Act) (s : State) → (each all acts s).state.loads ≡ s.loads
+unfolding machine_opened
+acts-loads [] s = refl
+acts-loads (a ∷ all) s = acts-loads all (acts a s).state ∙ act-loads a s
+
+notices-loads : (e : HostEvent) (s : State) → (notices e s).state.loads ≡ s.loads
+unfolding machine_opened
+notices-loads e s =
+    let t = host_turn e s.host in acts-loads t.acts (record s { host = t.host })
+
+idles-loads : (k : ℕ) (s : State) → (idles k s).state.loads ≡ s.loads
+unfolding machine_opened
+idles-loads k s = by (is_idle k s.bus)
+  where
+    by : (b : Bool) → (when b (notices (host_event.Idle k)) s).state.loads ≡ s.loads
+    by true = notices-loads (host_event.Idle k) s
+    by false = refl
+
+pub host_follows-loads : (n : ℕ) (how : Outcome) (s : State)
+    → (host_follows n how s).state.loads ≡ s.loads
+unfolding machine_opened
+host_follows-loads n how s =
+    by (request_of n s.bus) ∙ notices-loads e s
+  where
+    e : HostEvent
+    e = host_event.Ended n how
+
+    behind : (b : Bool) (k : ℕ) (t : State) → (when b (idles k) t).state.loads ≡ t.loads
+    behind true k t = idles-loads k t
+    behind false k t = refl
+
+    by : (o : Option Request)
+        → (given o idles_behind (notices e s).state).state.loads ≡ (notices e s).state.loads
+    by None = refl
+    by (Some r) = behind (same_side side.Ap r.side) r.connection (notices e s).state
