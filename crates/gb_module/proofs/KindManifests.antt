@@ -13,3 +13,4 @@ raw-kind kind.Spi = refl
 raw-kind kind.Uart = refl
 raw-kind kind.Bridge = refl
 raw-kind kind.Loopback = refl
+raw-kind kind.Firmware = refl

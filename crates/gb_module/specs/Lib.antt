@@ -1,4 +1,5 @@
 pub mod Few
+pub mod Loading
 pub mod Places
 pub mod Raw
 pub mod Steps

@@ -21,6 +21,7 @@ seen (device.I2c i2c) = devices.I2c i2c
 seen (device.Spi spi) = devices.Spi spi
 seen (device.Uart uart) = devices.Uart
 seen (device.Loopback loopback) = devices.Loopback
+seen (device.Firmware loader) = devices.Firmware loader
 
 -- what comes from outside
 abbrev pub stir_of : Stir → devices.Stir

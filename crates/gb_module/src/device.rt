@@ -1,19 +1,28 @@
 //! The device behind a CPort.
 
-ghost use Rattle.std.specs.Prelude.{◌≡◌, IfOk, option_map};
+ghost use Rattle.std.specs.Prelude.{◌≡◌, false, Some, IfOk, IsOk, IsOkAnd, option_copied};
+ghost use Rattle.std.specs.Prelude.{option_map};
+ghost use Rattle.gb_base.specs.Bytes.{AreFew};
 ghost use Rattle.gb_bridge_payload.specs.Serving.{ServesAs};
+ghost use Rattle.gb_firmware.specs.Loading.{bytes_after};
 ghost use Rattle.gb_formats.specs.Devices.{device_of, device_step, device_stir, restarted_device};
+ghost use Rattle.gb_formats.specs.Devices.{Firmware};
 ghost use Rattle.gb_formats.specs.GpioDevice.{gpio_level_set};
+ghost use Rattle.gb_formats.specs.Loader.{find_ask, is_running, loader_begun, loader_ended};
+ghost use Rattle.gb_formats.specs.Loader.{loader_failed};
+ghost use Rattle.gb_formats.specs.ModuleLoads.{loader_of, running_tag, with_loader};
 ghost use Rattle.gb_module.specs.Few.{FewSucceed};
+ghost use Rattle.gb_module.specs.Loading.{FollowsAs, IsIdle, Runs, RunsOn, follows};
 ghost use Rattle.gb_module.specs.Stirring.{IsStir, SetsLevel, StirsAs};
 ghost use Rattle.gb_module.specs.Views.{seen, stir_of};
 ghost use Rattle.gb_module.specs.declared.stir.Stir.TheVariants as stir;
 
 use crate::stir::{Stir, StirFault};
-use gb_base::{Bytes, OutOfMemory, OwnAsk, OwnAsks, Served};
+use gb_base::{Bytes, Next, OutOfMemory, Outcome, OwnAsk, OwnAsks, Served, Tag};
 use gb_bridge_payload::gpio_kinds::IRQ_EVENT;
-use gb_firmware::Loopback;
-use gb_payload::protocols::{GPIO, I2C, LOOPBACK, SPI, UART};
+use gb_bridge_payload::{PROTOCOL_BAD, refused};
+use gb_firmware::{LoadFault, Loader, Loopback};
+use gb_payload::protocols::{FIRMWARE, GPIO, I2C, LOOPBACK, SPI, UART};
 use std::alloc::Global;
 
 /// The device behind a CPort, one for each protocol that has one.
@@ -29,6 +38,8 @@ pub enum Device {
     Uart(gb_uart::Device),
     /// A loopback.
     Loopback(Loopback),
+    /// A firmware device, which downloads images.
+    Firmware(Loader),
 }
 
 impl Device {
@@ -42,6 +53,7 @@ impl Device {
             SPI => Ok(Some(Device::Spi(gb_spi::Device::new(alloc)?))),
             UART => Ok(Some(Device::Uart(gb_uart::Device::new(alloc)?))),
             LOOPBACK => Ok(Some(Device::Loopback(Loopback))),
+            FIRMWARE => Ok(Some(Device::Firmware(Loader::new(alloc)))),
             _ => Ok(None),
         }
     }
@@ -56,6 +68,7 @@ impl Device {
             Device::Spi(spi) => spi.restart(),
             Device::Uart(uart) => uart.restart(),
             Device::Loopback(_) => {}
+            Device::Firmware(loader) => loader.restart(),
         }
     }
 
@@ -72,6 +85,7 @@ impl Device {
             Device::Spi(spi) => spi.serve(kind, payload),
             Device::Uart(uart) => uart.serve(kind, payload),
             Device::Loopback(loopback) => loopback.serve(alloc, kind, payload),
+            Device::Firmware(_) => Ok(refused(alloc, PROTOCOL_BAD)),
         }
     }
 
@@ -101,6 +115,58 @@ impl Device {
             Device::I2c(_) => Err(StirFault::NoCport),
             Device::Spi(_) => Err(StirFault::NoCport),
             Device::Loopback(_) => Err(StirFault::NoCport),
+            Device::Firmware(_) => Err(StirFault::NoCport),
+        }
+    }
+
+    /// The loader of a firmware device, None exactly where it is another device.
+    pub fn loader(&self) -> Option<&Loader>
+        ensures { option_copied result ≡ loader_of (seen self.now) }
+    {
+        match self {
+            Device::Firmware(loader) => Some(loader),
+            _ => None,
+        }
+    }
+
+    /// A firmware device begins to download the image of a tag: answers its first request. It never
+    /// answers want of memory.
+    pub fn load(&mut self, tag: &Tag) -> Result<OwnAsk, OutOfMemory>
+        requires { IsIdle (loader_of (seen self.old)) }
+        ensures ask { IsOkAnd result (λ own. own ≡ find_ask tag.now) }
+        ensures device { seen self.new ≡ with_loader (loader_begun tag.now) (seen self.old) }
+    {
+        match self {
+            Device::Firmware(loader) => begin(loader, tag),
+            _ => unreachable!(),
+        }
+    }
+
+    /// The request that a download waits for has ended: answers what follows, None exactly where no
+    /// download runs. Only where one goes on with more than 16 bytes it takes memory. After want of
+    /// memory the device is as before.
+    pub fn ended(&mut self, outcome: &Outcome) -> Result<Option<Next>, OutOfMemory>
+        ensures step { FollowsAs Firmware (follows outcome.now (loader_of (seen self.old)))
+            (seen self.old) (seen self.new) result }
+        ensures runs { RunsOn (loader_of (seen self.new)) result }
+        ensures few { AreFew (bytes_after (follows outcome.now (loader_of (seen self.old))))
+            → IsOk result }
+    {
+        match self {
+            Device::Firmware(loader) => ended(loader, outcome),
+            _ => Ok(None),
+        }
+    }
+
+    /// The running download fails: answers its tag. It takes no memory.
+    pub fn fail(&mut self) -> Tag
+        requires { Runs (loader_of (seen self.old)) }
+        ensures tag { result ≡ running_tag (loader_of (seen self.old)) }
+        ensures device { seen self.new ≡ with_loader loader_failed (seen self.old) }
+    {
+        match self {
+            Device::Firmware(loader) => loader.fail(),
+            _ => unreachable!(),
         }
     }
 }
@@ -126,4 +192,33 @@ fn set_level(
         return Ok(asks);
     }
     Ok(OwnAsks::new(alloc))
+}
+
+/// A loader in which no download runs begins one: answers its first request. It never answers want
+/// of memory.
+fn begin(loader: &mut Loader, tag: &Tag) -> Result<OwnAsk, OutOfMemory>
+    requires { is_running loader.old ≡ false }
+    ensures ask { IsOkAnd result (λ own. own ≡ find_ask tag.now) }
+    ensures loader { loader.new ≡ loader_begun tag.now loader.old }
+{
+    match loader.begin(tag) {
+        Ok(own) => Ok(own),
+        Err(LoadFault::Memory(refused)) => Err(refused),
+        Err(LoadFault::Running) => unreachable!(),
+    }
+}
+
+/// The request that a download waits for has ended: answers what follows, None exactly where no
+/// download runs. After want of memory the loader is as before.
+fn ended(loader: &mut Loader, outcome: &Outcome) -> Result<Option<Next>, OutOfMemory>
+    ensures step { FollowsAs (λ l. l) (loader_ended outcome.now loader.old)
+        loader.old loader.new result }
+    ensures runs { RunsOn (Some loader.new) result }
+    ensures few { AreFew (bytes_after (loader_ended outcome.now loader.old)) → IsOk result }
+{
+    if !loader.is_running() {
+        return Ok(None);
+    }
+    let next = loader.ended(outcome)?;
+    Ok(Some(next))
 }

@@ -1,11 +1,12 @@
 //! One interface of a module by itself: the bytes of its manifest, its CPorts with a device each,
-//! and its Control responder.
+//! its Control responder, and the downloads of its firmware devices.
 #![tactic(auto)]
 
 mod control;
 mod cport_state;
 mod device;
 mod kinds;
+mod loads;
 mod modules;
 mod port;
 mod ports;

@@ -51,7 +51,7 @@ impl Module {
 
     /// A module with these bytes as its manifest, at most 2,040, and with all CPorts off. Where the
     /// bytes are a manifest, it has a device for each CPort outside bundle 0 whose protocol is
-    /// GPIO, I2C, SPI, UART or Loopback. Where they aren't, it has none.
+    /// GPIO, I2C, SPI, UART, Loopback or Firmware Download. Where they aren't, it has none.
     pub fn raw(alloc: Global, manifest: &[u8]) -> Result<Module, OutOfMemory>
         requires { length manifest.now ≤ most_payload }
         ensures { IfOk result (λ made. made ≡ module_raw manifest.now) }

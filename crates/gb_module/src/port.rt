@@ -1,11 +1,18 @@
 //! A CPort with a device.
 
-ghost use Rattle.std.specs.Prelude.{◌≡◌, if◌then◌else◌};
+ghost use Rattle.std.specs.Prelude.{◌≡◌, if◌then◌else◌, IsOk, IsOkAnd, option_copied};
+ghost use Rattle.gb_base.specs.Bytes.{AreFew};
 ghost use Rattle.gb_bridge_payload.specs.Serving.{ServesAs};
-ghost use Rattle.gb_formats.specs.Devices.{device_step, device_stir};
-ghost use Rattle.gb_formats.specs.Module.{first_port, if_on};
+ghost use Rattle.gb_firmware.specs.Loading.{bytes_after};
+ghost use Rattle.gb_formats.specs.Devices.{Firmware, device_step, device_stir};
+ghost use Rattle.gb_formats.specs.Loader.{Loader, find_ask, loader_begun, loader_failed};
+ghost use Rattle.gb_formats.specs.Module.{first_port, if_on, is_on};
+ghost use Rattle.gb_formats.specs.ModuleLoads.{if_may_ask, loader_of, running_tag, with_loader};
 ghost use Rattle.gb_formats.specs.Results.{invalid, success};
 ghost use Rattle.gb_module.specs.Few.{FewSucceed};
+ghost use Rattle.gb_module.specs.Loading.{FollowsAs, IsIdle, IsLoaded, Runs, RunsOn, RunsToAsk};
+ghost use Rattle.gb_module.specs.Loading.{follows, follows_in, loader_refusal, refusal_in};
+ghost use Rattle.gb_module.specs.Loading.{with_its_loader};
 ghost use Rattle.gb_module.specs.Steps.{port_step, port_stir};
 ghost use Rattle.gb_module.specs.Stirring.{IsStir, StirsAs};
 ghost use Rattle.gb_module.specs.Turning.{changes, wants};
@@ -15,8 +22,9 @@ use crate::cport_state::CportState;
 use crate::device::Device;
 use crate::stir::{Stir, StirFault};
 use crate::turn::Turn;
-use gb_base::{OutOfMemory, OwnAsks, Served};
+use gb_base::{Next, OutOfMemory, Outcome, OwnAsk, OwnAsks, Refusal, Served, Tag};
 use gb_bridge_payload::{INVALID, SUCCESS};
+use gb_firmware::Loader;
 use std::alloc::Global;
 use std::marker::Model;
 
@@ -118,13 +126,103 @@ impl Port {
         Ok(self.if_on(asks))
     }
 
+    /// The loader of its device, None exactly where that isn't a firmware device.
+    pub fn loader(&self) -> Option<&Loader>
+        ensures { option_copied result ≡ loader_of self.now.device }
+    {
+        self.device.loader()
+    }
+
+    /// Whether its firmware device can begin a download. NoCport exactly where it has another
+    /// device, else NoConnection exactly where it isn't on, else Occupied exactly where a download
+    /// runs.
+    pub fn may_load(&self) -> Result<(), Refusal>
+        ensures { loader_refusal self.now.state (loader_of self.now.device) ≡ refusal_in result }
+    {
+        let Some(loader) = self.device.loader() else {
+            return Err(Refusal::NoCport);
+        };
+        if !self.is_on() {
+            return Err(Refusal::NoConnection);
+        }
+        if loader.is_running() {
+            return Err(Refusal::Occupied);
+        }
+        Ok(())
+    }
+
+    /// Its firmware device begins to download the image of a tag: answers the first request. It
+    /// never answers want of memory.
+    pub fn load(&mut self, tag: &Tag) -> Result<OwnAsk, OutOfMemory>
+        requires { IsIdle (loader_of self.old.device) }
+        ensures ask { IsOkAnd result (λ own. own ≡ find_ask tag.now) }
+        ensures port { self.new
+            ≡ record self.old { device = with_loader (loader_begun tag.now) self.old.device } }
+    {
+        self.device.load(tag)
+    }
+
+    /// The request that a download waits for has ended: answers what follows, None exactly where no
+    /// download runs. Where the CPort isn't on, the download fails in place of a next request. Only
+    /// where it goes on with more than 16 bytes it takes memory. After want of memory the CPort is
+    /// as before.
+    pub fn ended(&mut self, outcome: &Outcome) -> Result<Option<Next>, OutOfMemory>
+        ensures step { FollowsAs (with_its_loader self.old)
+            (follows_in self.old.state outcome.now (loader_of self.old.device))
+            self.old self.new result }
+        ensures runs { RunsOn (loader_of self.new.device) result }
+        ensures few { AreFew (bytes_after (follows outcome.now (loader_of self.old.device)))
+            → IsOk result }
+    {
+        let Some(next) = self.device.ended(outcome)? else {
+            return Ok(None);
+        };
+        Ok(Some(self.if_may_ask(next)))
+    }
+
+    /// What follows in a download, but that it fails where a request would be made and the CPort
+    /// isn't on.
+    fn if_may_ask(&mut self, next: Next) -> Next
+        requires { RunsToAsk (loader_of self.old.device) next }
+        ensures step { (l : Loader) → self.old.device ≡ Firmware l
+            → IsLoaded (with_its_loader self.old)
+            (if_may_ask self.old.state (record { after = l; next = next })) self.new result }
+        ensures runs { RunsToAsk (loader_of self.new.device) result }
+    {
+        if self.is_on() {
+            return next;
+        }
+        match next {
+            Next::Ask(_) => Next::Failed { tag: self.fail() },
+            Next::Done { tag, size } => Next::Done { tag, size },
+            Next::Failed { tag } => Next::Failed { tag },
+        }
+    }
+
+    /// The running download fails: answers its tag. It takes no memory.
+    pub fn fail(&mut self) -> Tag
+        requires { Runs (loader_of self.old.device) }
+        ensures tag { result ≡ running_tag (loader_of self.old.device) }
+        ensures port { self.new
+            ≡ record self.old { device = with_loader loader_failed self.old.device } }
+    {
+        self.device.fail()
+    }
+
     /// These requests where the CPort is on, else none.
     fn if_on(&self, asks: OwnAsks) -> OwnAsks
         ensures { result ≡ if_on self.now.state asks }
     {
-        if self.state == CportState::On {
+        if self.is_on() {
             return asks;
         }
         OwnAsks::new(self.alloc)
+    }
+
+    /// Whether it is on.
+    fn is_on(&self) -> bool
+        ensures { result ≡ is_on self.now.state }
+    {
+        self.state == CportState::On
     }
 }

@@ -1,13 +1,20 @@
 //! The CPorts of a module.
 
-ghost use Rattle.std.specs.Prelude.{◌≡◌, ◌<◌, IfOk, IfSome, List, ℕ, length, find, option_copied};
+ghost use Rattle.std.specs.Prelude.{◌≡◌, ◌<◌, IfOk, IfSome, IsOk, IsOkAnd, List, ℕ, length, find};
+ghost use Rattle.std.specs.Prelude.{option_copied};
 ghost use Rattle.std.specs.List.{position_from};
+ghost use Rattle.gb_base.specs.Bytes.{AreFew};
 ghost use Rattle.gb_bridge_payload.specs.Serving.{ServesAs};
+ghost use Rattle.gb_firmware.specs.Loading.{bytes_after};
 ghost use Rattle.gb_formats.specs.ControlResponder.{turn_step};
+ghost use Rattle.gb_formats.specs.Loader.{find_ask, loader_begun, loader_failed};
 ghost use Rattle.gb_formats.specs.Module.{is_port};
+ghost use Rattle.gb_formats.specs.ModuleLoads.{loader_changed, port_ended, port_loader};
+ghost use Rattle.gb_formats.specs.ModuleLoads.{running_tag};
 ghost use Rattle.gb_formats.specs.ModuleSteps.{port_served, port_stirred};
 ghost use Rattle.gb_formats.specs.Results.{refusal_of};
 ghost use Rattle.gb_module.specs.Few.{FewSucceed, device_answer};
+ghost use Rattle.gb_module.specs.Loading.{EndsAs, IsIdle, Runs, RunsOn, follows};
 ghost use Rattle.gb_module.specs.Steps.{with_ports};
 ghost use Rattle.gb_module.specs.Stirring.{IsStir, StirsAs};
 ghost use Rattle.gb_module.specs.Turning.{changes, wants};
@@ -16,7 +23,7 @@ ghost use Rattle.gb_module.specs.Views.{stir_of};
 use crate::port::Port;
 use crate::stir::{Stir, StirFault};
 use crate::turn::Turn;
-use gb_base::{OutOfMemory, OwnAsks, Served};
+use gb_base::{Next, OutOfMemory, Outcome, OwnAsk, OwnAsks, Served, Tag};
 use gb_bridge_payload::{NONEXISTENT, PROTOCOL_BAD, refused};
 use std::collections::BTreeMap;
 use std::marker::Model;
@@ -109,6 +116,56 @@ impl Ports {
         };
         let port = &mut self.ports[place];
         port.stir(what)
+    }
+
+    /// The firmware device of the CPort with a number begins to download the image of a tag:
+    /// answers its first request. It never answers want of memory.
+    pub fn load(&mut self, number: u16, tag: &Tag) -> Result<OwnAsk, OutOfMemory>
+        requires { IsIdle (port_loader (find (is_port number) self.old)) }
+        ensures ask { IsOkAnd result (λ own. own ≡ find_ask tag.now) }
+        ensures module { (manifest : List ℕ) → with_ports manifest self.new
+            ≡ loader_changed (loader_begun tag.now) (with_ports manifest self.old)
+            (find (is_port number) self.old) }
+    {
+        let Some(place) = self.place(number) else {
+            unreachable!()
+        };
+        let port = &mut self.ports[place];
+        port.load(tag)
+    }
+
+    /// The request of the CPort with a number that was made last has ended: answers what follows in
+    /// the download that runs there, None exactly where none runs. Only where it goes on with more
+    /// than 16 bytes it takes memory. After want of memory all are as before.
+    pub fn ended(&mut self, number: u16, outcome: &Outcome) -> Result<Option<Next>, OutOfMemory>
+        ensures step { (manifest : List ℕ) → EndsAs (port_ended (with_ports manifest self.old)
+            (find (is_port number) self.old) outcome.now)
+            (with_ports manifest self.old) (with_ports manifest self.new) result }
+        ensures runs { RunsOn (port_loader (find (is_port number) self.new)) result }
+        ensures few { AreFew (bytes_after
+            (follows outcome.now (port_loader (find (is_port number) self.old)))) → IsOk result }
+    {
+        let Some(place) = self.place(number) else {
+            return Ok(None);
+        };
+        let port = &mut self.ports[place];
+        port.ended(outcome)
+    }
+
+    /// The download that runs at the CPort with a number fails: answers its tag. It takes no
+    /// memory.
+    pub fn fail(&mut self, number: u16) -> Tag
+        requires { Runs (port_loader (find (is_port number) self.old)) }
+        ensures tag { result ≡ running_tag (port_loader (find (is_port number) self.old)) }
+        ensures module { (manifest : List ℕ) → with_ports manifest self.new
+            ≡ loader_changed loader_failed (with_ports manifest self.old)
+            (find (is_port number) self.old) }
+    {
+        let Some(place) = self.place(number) else {
+            unreachable!()
+        };
+        let port = &mut self.ports[place];
+        port.fail()
     }
 
     /// Where the CPort with a number stands.
