@@ -1,5 +1,5 @@
--- Which records can be written: each count and length fits its field, a field of bytes is as long as
--- it must be, and the data as long as the ops or the entries say.
+-- Which records can be written: each count and length fits its field, a name and a tag are as long
+-- as their fields, and the data is as long as the ops or the entries say.
 use Rattle.std.specs.Prelude.{◌≡◌, ◌<◌, ◌*◌, ◌/◌, ⊤, ℕ, List, length, sum_by}
 use Rattle.gb_formats.specs.FirmwareRecords.{FirmwareAsk, tag_field}
 use Rattle.gb_formats.specs.I2cRecords.{I2cAsk, op_size, op_written_size, ops_at}

@@ -1,5 +1,5 @@
-//! Reads and writes the payloads of the bridged protocols, GPIO, I2C, SPI, UART and Loopback, and of
-//! Firmware Download.
+//! Reads and writes the payloads of the bridged protocols, GPIO, I2C, SPI, UART and Loopback, and
+//! of Firmware Download.
 #![tactic(auto)]
 
 mod bridge_fault;

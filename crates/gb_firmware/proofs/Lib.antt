@@ -1,1 +1,3 @@
 pub mod Bridged
+pub mod Free
+pub mod Lent

@@ -1,6 +1,7 @@
 -- How a loader begins a download and goes on with it.
-use Rattle.std.specs.Prelude.{◌≡◌, ◌<◌, ◌≤◌, ◌×◌, ℕ, true, false, Option, Some, None, Result, Ok, Err, List, []}
-use Rattle.std.specs.Prelude.{length}
+use Rattle.std.specs.Prelude.{◌≡◌, ◌<◌, ◌≤◌, ℕ, true, false, Option, Some, None, IsOk, Result, Ok}
+use Rattle.std.specs.Prelude.{Err, List, [], length}
+use Rattle.gb_base.specs.Bytes.{AreFew}
 use Rattle.gb_base.specs.declared.errors.OutOfMemory.{OutOfMemory}
 use Rattle.gb_base.specs.declared.download.Next.{Next}
 use Rattle.gb_base.specs.declared.outcome.Outcome.{Outcome}
@@ -11,7 +12,7 @@ use Rattle.gb_firmware.specs.declared.download.Turn.{Turn}
 use Rattle.gb_firmware.specs.declared.download.Turn.TheVariants as turn
 use Rattle.gb_firmware.specs.declared.loader.LoadFault.{LoadFault}
 use Rattle.gb_firmware.specs.declared.loader.LoadFault.TheVariants as fault
-use Rattle.gb_formats.specs.Loader.{Awaits, Download, Loaded, Loader, ended_so, fails, find_ask}
+use Rattle.gb_formats.specs.Loader.{Awaits, Download, Loaded, Loader, fails, find_ask}
 use Rattle.gb_formats.specs.Loader.{goes_on, is_done, is_running, loader_begun, loader_ended}
 
 -- ---- views
@@ -71,3 +72,12 @@ turned turn.Fails d l = fails d l
 abbrev pub TurnsAs : (Loader → Loaded) → Download → Download → Result Turn OutOfMemory → Type 0
 TurnsAs loaded old new (Ok turn) = (l : Loader) → loaded l ≡ turned turn new l
 TurnsAs loaded old new (Err refused) = new ≡ old
+
+-- It takes memory only where the download goes on with more than few bytes.
+abbrev pub TurnsFew : (Loader → Loaded) → Result Turn OutOfMemory → Type 0
+TurnsFew loaded result = (l : Loader) → AreFew (bytes_in (loaded l).after.running) → IsOk result
+
+-- A loader whose running download is done goes on as the definition says.
+abbrev pub FinishesAs : Option Download → Loader → Loader → Next → Type 0
+FinishesAs None old new next = ⊥
+FinishesAs (Some d) old new next = record { after = new; next = next } ≡ is_done d old

@@ -1,8 +1,7 @@
 //! A running download.
 
-ghost use Rattle.std.specs.Prelude.{◌≡◌, ◌<◌, ◌≤◌, ◌++◌, IsOk, Ok, length, min, ◌-◌};
-ghost use Rattle.gb_base.specs.Bytes.{AreFew};
-ghost use Rattle.gb_firmware.specs.Loading.{TurnsAs};
+ghost use Rattle.std.specs.Prelude.{◌≡◌, ◌≤◌, Ok, [], length};
+ghost use Rattle.gb_firmware.specs.Loading.{TurnsAs, TurnsFew};
 ghost use Rattle.gb_formats.specs.FirmwareRecords.{read_firmware_reply};
 ghost use Rattle.gb_formats.specs.Loader as formats;
 
@@ -70,6 +69,7 @@ impl Download {
     /// more than few, it takes memory. After want of memory it is as before.
     pub fn ended(&mut self, alloc: Global, outcome: &Outcome) -> Result<Turn, OutOfMemory>
         ensures step { TurnsAs (formats.ended_so outcome.now self.old) self.old self.new result }
+        ensures few { TurnsFew (formats.ended_so outcome.now self.old) result }
     {
         let Outcome::Answered { result, payload } = outcome else {
             return Ok(Turn::Fails);
@@ -84,6 +84,7 @@ impl Download {
     fn answered(&mut self, alloc: Global, payload: &[u8]) -> Result<Turn, OutOfMemory>
         ensures step { TurnsAs (formats.answered self.old.awaits payload.now self.old)
             self.old self.new result }
+        ensures few { TurnsFew (formats.answered self.old.awaits payload.now self.old) result }
     {
         match self.awaits {
             Awaits::Find => Ok(self.found(alloc, payload)),
@@ -94,7 +95,7 @@ impl Download {
 
     /// FIND was answered with success.
     fn found(&mut self, alloc: Global, payload: &[u8]) -> Turn
-        requires { self.old.awaits ≡ formats.Awaits.Find }
+        requires { self.old.bytes ≡ [] }
         ensures { TurnsAs (formats.found (read_firmware_reply 0x01 payload.now) self.old)
             self.old self.new (Ok result) }
     {
@@ -115,6 +116,7 @@ impl Download {
         requires { self.old.awaits ≡ formats.Awaits.Fetch id size }
         ensures step { TurnsAs (formats.fetched id size payload.now self.old)
             self.old self.new result }
+        ensures few { TurnsFew (formats.fetched id size payload.now self.old) result }
     {
         if payload.len() != self.piece(size) {
             return Ok(Turn::Fails);

@@ -1,11 +1,11 @@
 //! The firmware images of the application processor.
 
-ghost use Rattle.std.specs.Prelude.{◌≡◌, true, false, None, Some, Ok, IsOkAnd, MatchOption};
-ghost use Rattle.std.specs.Prelude.{drop, find, take};
+ghost use Rattle.std.specs.Prelude.{◌≡◌, true, false, Some, None, Ok, [], ◌∷◌, ◌++◌, IfSome};
+ghost use Rattle.std.specs.Prelude.{IsOkAnd, MatchOption, OnErr, OnOk, drop, find, take};
 ghost use Rattle.std.specs.List.{list_any};
 ghost use Rattle.gb_bridge_payload.specs.Serving.{ServesAs};
 ghost use Rattle.gb_firmware.specs.Lending.{FewSucceed, PutsAs};
-ghost use Rattle.gb_formats.specs.FirmwareRecords.{FirmwareReply, firmware_reply_payload};
+ghost use Rattle.gb_formats.specs.FirmwareRecords as records;
 ghost use Rattle.gb_formats.specs.Images as formats;
 ghost use Rattle.gb_formats.specs.Lists.{first_free};
 ghost use Rattle.gb_formats.specs.Results.{answer_of};
@@ -137,14 +137,13 @@ impl Images {
         let Some(id) = free_id(&self.loans, connection) else {
             return Ok(refused(self.alloc, RETRY));
         };
-        let served = lent(self.alloc, id, image.bytes.items().len());
-        self.loans.reserve(1)?;
-        self.loans.push_reserved(Loan {
+        let loan = Loan {
             connection,
             id,
             tag: image.tag.copied(),
-        });
-        Ok(served)
+        };
+        add(&mut self.loans, loan)?;
+        Ok(lent(self.alloc, id, image.bytes.items().len()))
     }
 
     /// FETCH of bytes of the image that is lent under an id.
@@ -193,8 +192,9 @@ impl Images {
 
 /// The first image that has a tag.
 fn image_in<'a>(given: &'a [Image], tag: &[u8]) -> Option<&'a Image>
-    ensures { MatchOption result (find (formats.has_tag tag.now) given.now ≡ None)
+    ensures first { MatchOption result (find (formats.has_tag tag.now) given.now ≡ None)
         (λ image. find (formats.has_tag tag.now) given.now ≡ Some image.now) }
+    ensures tag { IfSome result (λ image. image.now.tag ≡ tag.now) }
 {
     given.iter().find(|image| image.tag.bytes() == tag)
 }
@@ -218,12 +218,27 @@ fn is_lent(loans: &[Loan], connection: u64, id: u8) -> bool
         .any(|loan| loan.connection == connection && loan.id == id)
 }
 
+/// An image is lent. After want of memory the loans are as before.
+fn add(loans: &mut Vec<Loan>, loan: Loan) -> Result<(), OutOfMemory>
+    ensures ok { OnOk result (loans.new.items ≡ loans.old.items ++ loan ∷ []) }
+    ensures err { OnErr result (loans.new.items ≡ loans.old.items) }
+{
+    loans.reserve(1)?;
+    loans.push_reserved(loan);
+    Ok(())
+}
+
 /// The least id of a connection from 1 to 255 that isn't in use.
 fn free_id(loans: &[Loan], connection: u64) -> Option<u8>
     ensures { result
         ≡ first_free (λ id. list_any (formats.is_loan connection id) loans.now) 255 1 }
 {
-    (1..=255).find(|id| !is_lent(loans, connection, *id))
+    for id in 1..=255 {
+        if !is_lent(loans, connection, id) {
+            return Some(id);
+        }
+    }
+    None
 }
 
 /// The bytes before the first zero, None where there is none.
@@ -252,7 +267,8 @@ fn piece(bytes: &[u8], offset: u32, size: u32) -> Option<&[u8]>
 
 /// The answer that an image of this size is lent under an id. It takes no memory.
 fn lent(alloc: Global, id: u8, size: usize) -> Served
-    ensures { result ≡ answer_of (firmware_reply_payload (FirmwareReply.Find id size)) }
+    ensures { result ≡ answer_of (records.firmware_reply_payload
+        (records.FirmwareReply.Find id size)) }
 {
     let reply = FirmwareReply::Find {
         id,

@@ -2,7 +2,7 @@
 
 ghost use Rattle.std.specs.Prelude.{◌≡◌, true, false, None, Some, IsOk, MatchOption};
 ghost use Rattle.gb_base.specs.Bytes.{AreFew};
-ghost use Rattle.gb_firmware.specs.Loading.{BeginsAs, EndsAs, bytes_after};
+ghost use Rattle.gb_firmware.specs.Loading.{BeginsAs, EndsAs, FinishesAs, bytes_after};
 ghost use Rattle.gb_formats.specs.Loader.{first_loader, is_running, loader_ended, loader_failed};
 ghost use Rattle.gb_formats.specs.Loader.{loader_tag};
 
@@ -100,6 +100,7 @@ impl Loader {
     /// The running download is done: the image is kept.
     fn finish(&mut self) -> Next
         requires { is_running self.old ≡ true }
+        ensures { FinishesAs self.old.running self.old self.new result }
     {
         let Some(download) = self.running.take() else {
             unreachable!()
