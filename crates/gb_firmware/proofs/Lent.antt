@@ -98,9 +98,9 @@ spelled_by field place e =
 abbrev pub images_of : List Image → List Loan → Images
 images_of given loans = record { given = given; loans = loans }
 
--- a request was served so
-abbrev Served_so : Served → Images → Step Images → Type 0
-Served_so served after step = (served ≡ step.served) × (after ≡ step.after)
+-- a request was served as this step
+abbrev IsServed : Served → Images → Step Images → Type 0
+IsServed served after step = (served ≡ step.served) × (after ≡ step.after)
 
 -- the ids of a connection are free
 pub forgets : (k : ℕ) (given : List Image) (old new : List Loan) (x : Images)
@@ -112,12 +112,12 @@ forgets k given old new x is e = ap (images_of given) e ∙ ap (forgotten k) is
 pub releases : (k id : ℕ) (given : List Image) (old new : List Loan) (x : Images) (served : Served)
     → images_of given old ≡ x → list_any (is_loan k id) old ≡ true
     → new ≡ without (is_loan k id) old → served ≡ answer_of []
-    → Served_so served (images_of given new)
+    → IsServed served (images_of given new)
     (release_step k id (list_any (is_loan k id) x.loans) x)
 releases k id given old new x served is lent e answer =
-    subst (λ y. Served_so served (images_of given new)
+    subst (λ y. IsServed served (images_of given new)
     (release_step k id (list_any (is_loan k id) y.loans) y)) is
-    (subst (λ test. Served_so served (images_of given new)
+    (subst (λ test. IsServed served (images_of given new)
     (release_step k id test (images_of given old))) (sym lent)
     (answer, ap (images_of given) e))
 
@@ -137,9 +137,9 @@ pub lends_one : (k id : ℕ) (field tag bytes : List ℕ) (given : List Image) (
     → free_id k x ≡ Some id
     → served ≡ answer_of (firmware_reply_payload (FirmwareReply.Find id (length bytes)))
     → new ≡ old ++ record { connection = k; id = id; tag = tag } ∷ []
-    → Served_so served (images_of given new) (find_step k (tag_spelled field) x)
+    → IsServed served (images_of given new) (find_step k (tag_spelled field) x)
 lends_one k id field tag bytes given old new x served is spells has free answer e =
-    subst (Served_so served (images_of given new))
+    subst (IsServed served (images_of given new))
     (sym (lends_step k id field tag bytes x spells has free))
     (answer, ap (images_of given) e ∙ ap (with_loan k id tag) is)
 

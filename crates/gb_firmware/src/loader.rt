@@ -62,13 +62,20 @@ impl Loader {
         self.kept = None;
     }
 
+    /// Whether a download runs.
+    pub fn is_running(&self) -> bool
+        ensures { result ≡ is_running self.now }
+    {
+        self.running.is_some()
+    }
+
     /// Begins to download the image of a tag, and answers the first request. Running exactly where
     /// a download runs; the loader is then as before. It never answers want of memory.
     pub fn begin(&mut self, tag: &Tag) -> Result<OwnAsk, LoadFault>
         ensures step { BeginsAs tag.now self.old self.new result }
         ensures few { is_running self.old ≡ false → IsOk result }
     {
-        if self.running.is_some() {
+        if self.is_running() {
             return Err(LoadFault::Running);
         }
         self.running = Some(Download {

@@ -1,3 +1,4 @@
 pub mod KindManifests
+pub mod Loading
 pub mod Standing
 pub mod Stepping

@@ -3,7 +3,7 @@ use Rattle.std.proofs.Common.{◌≡◌, ℕ, zero, suc, ◌+◌, ◌<◌, ◌==
 use Rattle.std.proofs.Common.{Some, None, List, [], ◌∷◌, length, get_or, set, refl, sym, ap, ◌∙◌}
 use Rattle.std.proofs.Common.{arith, subst, BTreeMap}
 use Rattle.std.proofs.lemmas.Bool.Decides.{nat_tests}
-use Rattle.std.proofs.lemmas.List.{set-get_or}
+use Rattle.std.proofs.lemmas.List.{get_or-set_same, set-get_or}
 use Rattle.std.specs.List.{find, position_from}
 use Rattle.std.specs.Option.{IfSome}
 use Rattle.gb_formats.specs.Module.{ModulePort, is_port, with_port}
@@ -104,6 +104,8 @@ pub record Found (number : ℕ) (ports items : List ModulePort) (i : ℕ)
   pub named : x.number ≡ number
   pub same : set items i x ≡ ports
   pub changed : (new : ModulePort) → new.number ≡ number → with_port new ports ≡ set items i new
+  pub placed : (new : ModulePort) → new.number ≡ number
+      → find (is_port number) (set items i new) ≡ Some new
   pub stay : (places : BTreeMap ℕ ℕ) → AreFirst places 0 items → (new : ModulePort)
       → new.number ≡ x.number → AreFirst places 0 (set items i new)
 
@@ -123,6 +125,11 @@ found-in number ports i x first is =
       named = ap (λ (p : ModulePort). p.number) is ∙ s.named x;
       same = ap (set ports i) is ∙ set-get_or ports i x;
       changed = s.changed;
+      placed = λ new e.
+          let renamed : new.number ≡ (get_or ports i new).number = e ∙ sym (s.named new) in
+          (standing number (set ports i new) i
+          (same-from number ports 0 i new renamed ∙ first)).found new
+          ∙ ap Some (get_or-set_same ports i new new s.within);
       stay = λ places known new e number.
           known number
           ∙ sym (same-from number ports 0 i new

@@ -192,11 +192,10 @@ impl Port {
         if self.is_on() {
             return next;
         }
-        match next {
-            Next::Ask(_) => Next::Failed { tag: self.fail() },
-            Next::Done { tag, size } => Next::Done { tag, size },
-            Next::Failed { tag } => Next::Failed { tag },
-        }
+        let Next::Ask(_) = &next else {
+            return next;
+        };
+        Next::Failed { tag: self.fail() }
     }
 
     /// The running download fails: answers its tag. It takes no memory.
