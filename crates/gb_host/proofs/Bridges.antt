@@ -60,7 +60,8 @@ pub takes-credits : (x : Host) (h : machine.Host) (what : BridgeAsk) (k : ℕ) (
     → Stands x h → o ≡ find (λ l. l.connection == k) x.links.live.items → o ≡ Some link
     → link_of k h ≡ Some l → n ≡ credits_taken what
     → items ≡ at_first (is_link link.intf link.cport) (with_fewer n) x.links.live.items
-    → with_link l.intf l.cport (spent what) h ≡ record { interfaces = x.interfaces; links = items }
+    → with_link l.intf l.cport (spent what) h
+    ≡ record { interfaces = x.interfaces; links = items; images = x.images }
 takes-credits x h what k o link l n items s e is there taken new =
     let links = x.links.live.items in
     let same = same-link x h k o link l s e is there in
@@ -68,12 +69,14 @@ takes-credits x h what k o link l n items s e is there taken new =
     ∙ ap (λ (m : Link). record {
       interfaces = x.interfaces;
       links = at_first (is_link m.intf m.cport) (with_fewer (credits_taken what)) links;
+      images = x.images;
     }) same
     ∙ ap (λ m. record {
       interfaces = x.interfaces;
       links = at_first (is_link link.intf link.cport) (with_fewer m) links;
+      images = x.images;
     }) (sym taken)
-    ∙ ap (λ ls. record { interfaces = x.interfaces; links = ls }) (sym new)
+    ∙ ap (λ ls. record { interfaces = x.interfaces; links = ls; images = x.images }) (sym new)
 
 -- a line that takes no credits leaves connections as they are
 same-credits : (test : Link → Bool) (what : BridgeAsk) (ls : List Link) → credits_taken what ≡ 0

@@ -3,6 +3,7 @@ pub mod Changing
 pub mod FarEnds
 pub mod Free
 pub mod Fronts
+pub mod Given
 pub mod Idle
 pub mod Indexed
 pub mod Looks

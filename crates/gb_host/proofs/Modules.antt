@@ -9,6 +9,7 @@ use Rattle.gb_base.specs.declared.entry.Entry.TheVariants as entry
 use Rattle.gb_base.specs.declared.entry.IntfStage.TheVariants as stage
 use Rattle.gb_base.specs.declared.peers.Interface.{Interface}
 use Rattle.gb_base.specs.declared.peers.Link.{Link}
+use Rattle.gb_formats.specs.Images.{Images}
 use Rattle.gb_host.proofs.Fronts.{spelled-after}
 use Rattle.gb_host.specs.Changes.{with_module}
 use Rattle.gb_host.specs.Stands.{host_of}
@@ -16,7 +17,7 @@ use Rattle.gb_host.specs.Turning.{Pends, Turns, begins, begun, spelled}
 use Rattle.gb_host.specs.declared.acts.Act.{Act}
 use Rattle.gb_host.specs.declared.host.Host.{Host}
 use Rattle.gb_machine.specs.Host as machine
-use Rattle.gb_machine.specs.Host.{is_intf, with_new_interface}
+use Rattle.gb_machine.specs.Host.{all_forgotten, is_intf, with_new_interface}
 use Rattle.gb_machine.specs.HostTurns.{host_inserted, host_removed, links_left, links_of}
 use Rattle.gb_machine.specs.HostTurns.{one_by_one, without_interface}
 use Rattle.gb_machine.specs.Lists.{span, without}
@@ -24,8 +25,8 @@ use Rattle.gb_machine.specs.Turns as turns
 use Rattle.gb_machine.specs.Turns.{Turn, turn}
 
 -- an application processor by what it knows
-abbrev with_parts : List Interface → List Link → machine.Host
-with_parts xs ls = record { interfaces = xs; links = ls }
+abbrev with_parts : List Interface → List Link → Images → machine.Host
+with_parts xs ls is = record { interfaces = xs; links = ls; images = is }
 
 -- the acts with one interface more, at the end
 pub acts-more : (one : ℕ → machine.Host → Turn) (is : List ℕ) (i : ℕ) (h : machine.Host)
@@ -41,7 +42,7 @@ acts-more one (j ∷ is) i h =
 -- the enumerations begin, and their interfaces are known
 inserted-is : (p : ℕ) (is : List ℕ) (h : machine.Host)
     → one_by_one (host_inserted p) is h
-    ≡ turn (with_parts (with_module p is h.interfaces) h.links) (begun is)
+    ≡ turn (with_parts (with_module p is h.interfaces) h.links h.images) (begun is)
 inserted-is p [] h = refl
 inserted-is p (i ∷ is) h =
     ap (λ (t : Turn). turn t.host (begins i ++ t.acts))
@@ -55,12 +56,13 @@ begun-pends (i ∷ is) x = begun-pends is x
 -- the turn of an insertion is done
 pub inserted-turns : (p : ℕ) (is : List ℕ) (old new : Host) (front all : List Act)
     → new.interfaces ≡ with_module p is old.interfaces → new.links.live.items ≡ old.links.live.items
-    → all ≡ front ++ spelled (begun is)
+    → new.images ≡ old.images → all ≡ front ++ spelled (begun is)
     → Turns (one_by_one (host_inserted p) is (host_of old)) front new all
-inserted-turns p is old new front all known same acts =
+inserted-turns p is old new front all known same given acts =
     subst (λ t. Turns t front new all) (sym (inserted-is p is (host_of old))) (record {
-      host = sym (ap (λ xs. with_parts xs new.links.live.items) known
-          ∙ ap (with_parts (with_module p is old.interfaces)) same);
+      host = sym (ap (λ xs. with_parts xs new.links.live.items new.images) known
+          ∙ ap (λ ls. with_parts (with_module p is old.interfaces) ls new.images) same
+          ∙ ap (with_parts (with_module p is old.interfaces) old.links.live.items) given);
       acts = acts;
       pending = begun-pends is new;
     })
@@ -109,19 +111,22 @@ left-more is i h front before all e f =
 
 -- one interface is gone, and then those behind it
 pub one-gone : (is : List ℕ) (n : ℕ) → n < length is
-    → (h : machine.Host) (xs : List Interface) (ls : List Link)
+    → (h : machine.Host) (xs : List Interface) (ls : List Link) (ims : Images)
     → xs ≡ without (is_intf (get_or is n 0)) h.interfaces
     → ls ≡ without (λ l. l.intf == get_or is n 0) h.links
-    → (one_by_one host_removed (drop (n + 1) is) (with_parts xs ls)).host
+    → ims ≡ all_forgotten (links_of (get_or is n 0) h) h.images
+    → (one_by_one host_removed (drop (n + 1) is) (with_parts xs ls ims)).host
     ≡ (one_by_one host_removed (drop n is) h).host
-one-gone is n within h xs ls e f =
+one-gone is n within h xs ls ims e f g =
     let i = get_or is n 0 in
     let later = drop (n + 1) is in
     let split : drop n is ≡ i ∷ later =
     drop-cons is n 0 within ∙ ap (λ m. i ∷ drop m is) (sym (add-one n)) in
-    let after : machine.Host → machine.Host = λ g. (one_by_one host_removed later g).host in
-    ap (λ ys. after (with_parts ys ls)) e
-    ∙ ap (λ ms. after (with_parts (without (is_intf i) h.interfaces) ms)) f
+    let after : machine.Host → machine.Host = λ j. (one_by_one host_removed later j).host in
+    let others = without (is_intf i) h.interfaces in
+    ap (λ ys. after (with_parts ys ls ims)) e
+    ∙ ap (λ ms. after (with_parts others ms ims)) f
+    ∙ ap (λ js. after (with_parts others (without (λ l. l.intf == i) h.links) js)) g
     ∙ ap (λ js. (one_by_one host_removed js h).host) (sym split)
 
 -- what passes the one test passes the other, or doesn't

@@ -16,5 +16,5 @@ returns c = λ few.
     (inserted-turns c.args.primary all c.args.self.now new c.args.acts c.in_ok-acts.acts
     (c.in_ok-add.ensures.ok
     ∙ ap (λ is. with_module c.args.primary is c.args.self.now.interfaces) c.items-2.ensures)
-    refl
+    refl refl
     (c.in_ok-acts.ensures ∙ ap (λ is. c.args.acts ++ spelled (begun is)) c.items.ensures))
