@@ -14,7 +14,8 @@ use Rattle.gb_base.specs.declared.entry.IntfStage.TheVariants as stage
 use Rattle.gb_base.specs.declared.outcome.Outcome.TheVariants as outcome
 use Rattle.gb_base.specs.declared.steps.SequenceStep.TheVariants as steps
 use Rattle.gb_machine.specs.Host.{Host, in_state, is_draining, link_at, link_of, staged}
-use Rattle.gb_machine.specs.Host.{with_interface, with_link, with_new_interface, without_link}
+use Rattle.gb_machine.specs.Host.{with_freed, with_interface, with_link, with_new_interface}
+use Rattle.gb_machine.specs.Host.{without_link}
 use Rattle.gb_machine.specs.HostTurns.{host_inserted, host_removed, host_turn, links_left, links_of}
 use Rattle.gb_machine.specs.HostTurns.{without_interface}
 use Rattle.gb_machine.specs.SequenceSteps.{at_step, is_enumeration, purpose}
@@ -81,7 +82,7 @@ host_after (resumes p) h = awaits_nothing p h
 host_after (updates i f) h = with_interface i f h
 host_after (fails i) h = with_interface i (staged stage.Failed) h
 host_after (turns_to i c to o) h = with_link i c (in_state to) h
-host_after (closes i c l) h = with_link i c (in_state state.Closing) h
+host_after (closes i c l) h = with_link i c (in_state state.Closing) (with_freed l.connection h)
 host_after (leaves p o) h = without_link p.intf p.cport h
 
 -- how a connection is given up, where there is one

@@ -16,8 +16,8 @@ use Rattle.gb_formats.specs.Manifest.{CportView, Manifest, check_answer}
 use Rattle.gb_formats.specs.{ControlRecords.read_control_reply, ManifestRules.Refused}
 use Rattle.gb_machine.specs.Failures.{interface_fails, step_fails}
 use Rattle.gb_machine.specs.Host.{Host, cport_of, free_cport, free_device, in_state, interface_of}
-use Rattle.gb_machine.specs.Host.{is_draining, link_at, link_of, with_interface, with_link}
-use Rattle.gb_machine.specs.Host.{with_new_interface, without_link}
+use Rattle.gb_machine.specs.Host.{is_draining, link_at, link_of, with_freed, with_interface}
+use Rattle.gb_machine.specs.Host.{with_link, with_new_interface, without_link}
 use Rattle.gb_machine.specs.HostTurns.{connects, connects_on, disconnects, drained, ended_for}
 use Rattle.gb_machine.specs.HostTurns.{host_disconnects, host_drains, host_idle, host_inserted}
 use Rattle.gb_machine.specs.HostTurns.{host_removed, without_interface}
@@ -237,7 +237,8 @@ module _ (x : Notice) (before : Host) (law : TurnLaw (at_notice x before)) where
       by (Some l) found =
           law.over (closes i c l) before _ found why
           (asked (at_notice x before) law (purpose i c steps.TellDisconnecting)
-          (with_link i c (in_state state.Closing) before) (ask l found) refl no-enumeration)
+          (with_link i c (in_state state.Closing) (with_freed l.connection before)) (ask l found) refl
+          no-enumeration)
 
   draining : (i c : ℕ) → law.says before (host_drains i c before)
   draining i c = by (link_at i c before) refl

@@ -1,4 +1,5 @@
 -- Points of a step, single changes, and laws of points.
+pub mod Loadings
 pub mod PointParts
 pub mod Points
 pub mod ChangeBuses

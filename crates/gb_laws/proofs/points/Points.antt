@@ -15,6 +15,9 @@ use Rattle.gb_base.specs.declared.name.Name.{Name}
 use Rattle.gb_base.specs.declared.outcome.Outcome.{Outcome}
 use Rattle.gb_base.specs.declared.outcome.Outcome.TheVariants as outcome
 use Rattle.gb_base.specs.declared.peers.Link.{Link}
+use Rattle.gb_base.specs.declared.download.Next.TheVariants as next
+use Rattle.gb_formats.specs.Images.{image_of}
+use Rattle.gb_formats.specs.Module.{Module}
 use Rattle.gb_machine.specs.Arriving.{reading_for, state_takes, with_held}
 use Rattle.gb_machine.specs.Bus.{Bus, Connection, Item, Place, Reply, connection_of, is_open}
 use Rattle.gb_machine.specs.Bus.{next_number, other_side, place_of, queue, request_of}
@@ -26,18 +29,23 @@ use Rattle.gb_machine.specs.Ports.{is_powered, level_of, unrouted}
 use Rattle.gb_machine.specs.Refusals.{is_reserved, module_place}
 use Rattle.gb_machine.specs.Requests.{gave_up, given_up_with, open_on, open_with}
 use Rattle.gb_machine.specs.Sending.{Draft, label_for, sent}
-use Rattle.gb_machine.specs.State.{Held, Plugged, Port, State}
+use Rattle.gb_machine.specs.State.{Held, Load, Plugged, Port, State, Trail}
 use Rattle.gb_machine.specs.SvcTable.{Create, Unroute, svc_step}
 use Rattle.gb_machine.specs.Turns.{Act, Asking, Making}
 use Rattle.gb_machine.specs.Wires.{disconnected_told, with_unwired, with_wired}
-use Rattle.gb_machine.specs.Wiring.{detached, injected, is_wired_to, next_connection, shut_down}
-use Rattle.gb_machine.specs.{Failures.unsent, Holding.held_on, Host.with_link}
+use Rattle.gb_machine.specs.Wiring.{detached, is_wired_to, next_connection, shut_down}
+use Rattle.gb_machine.specs.{Failures.unsent, Holding.held_on, Host.with_given, Host.with_link}
 use Rattle.gb_machine.specs.{HostServing.host_serves, LawsBus.is_awaited}
-use Rattle.gb_machine.specs.{LineActions.spent, LineActions.with_fewer, Lists.first, Lists.nth}
+use Rattle.gb_machine.specs.LineActions.{spent, with_fewer, with_injected}
+use Rattle.gb_machine.specs.{Lists.first, Lists.nth, Loading.with_done, Modules.module_at}
 use Rattle.gb_machine.specs.{Members.EachTwo, Members.IsIn, Plugging.with_told, Runs.Moment}
 use Rattle.gb_machine.specs.{Serving.Answer}
 use Rattle.gb_invariants.proofs.HostChanges.{Notice, at_event, at_insertion, turn_of}
 use Rattle.gb_laws.proofs.marks.Wholes.{AreElsewhere, AreWhole, plugged_at}
+pub use Rattle.gb_laws.proofs.points.Loadings.{Going, HearsBack, IsGoing, IsHeard, IsUnloaded}
+pub use Rattle.gb_laws.proofs.points.Loadings.{KeepLoaders, StaysOrFails, begins, continues}
+pub use Rattle.gb_laws.proofs.points.Loadings.{loader_in, loads_gone, modules_gone, trails_gone}
+pub use Rattle.gb_laws.proofs.points.Loadings.{unloaded}
 pub use Rattle.gb_laws.proofs.points.PointParts.{AreQuiet, Basis, Hand, IsAfterReply, IsBridge}
 pub use Rattle.gb_laws.proofs.points.PointParts.{IsCancelled, IsCaused, IsGivenUpFor, IsLate}
 pub use Rattle.gb_laws.proofs.points.PointParts.{IsNoticed}
@@ -82,6 +90,11 @@ pub data Forgets (h : Hand) (n : ℕ) (b : Bus) : Type 0 where
   by_label : (label : ℕ) → h.connection.clean ≡ false
       → given_up_with h.connection.number h.side label b ≡ Some n → Forgets h n b
 
+-- The application processor answers as it serves, before it changes.
+abbrev pub AnswersAs : Moment → Point → Hand → Incoming → Answer → Type 0
+AnswersAs m a h q r = h.side ≡ side.Ap → (a.state.host ≡ m.before.host)
+    × (r ≡ (host_serves h.connection.number q.kind q.payload m.before.host).answer)
+
 -- what a response that is taken answers with
 pub data Says (h : Hand) (n result : ℕ) (payload : List ℕ) : Type 0 where
   numbered : h.item ≡ Reply n result payload → Says h n result payload
@@ -94,18 +107,56 @@ pub data IsFarAsking (m : Moment) (c : Connection) (d : Draft) : Type 0 where
   by_svc : IsOfSvc m.event → d.side ≡ side.Far → IsFarAsking m c d
 
 -- Who asks on a connection at a point: the application processor does an act, and its sequence is
--- to wait for the request, or a far side asks on a connection that is wired, and with a type that a
--- request can have.
+-- to wait for the request; or a far side asks on a connection that is wired, and with a type that a
+-- request can have: another one than a firmware device, or a firmware device, whose download begins
+-- or goes on.
 pub data IsAskedBy (m : Moment) (a : Point) (c : Connection) (d : Draft) : Type 0 where
   by_host : (q : Asking) (rest : List Act) → a.pending ≡ Act.Ask q ∷ rest
       → d ≡ host_draft q a.state.now → a.asked ≡ None → IsAskedBy m a c d
-  by_far : IsFarAsking m c d → (c.wired ≡ true) × (d.kind < 128) → IsAskedBy m a c d
+  by_far : IsFarAsking m c d → (c.wired ≡ true) × (d.kind < 128) → IsUnloaded a.state c
+      → IsAskedBy m a c d
+  by_loader : (x : Going) → IsGoing m a.state c d x → IsFarAsking m c d
+      → (c.wired ≡ true) × (d.kind < 128) → IsAskedBy m a c d
 
 -- the request for which a sequence is to wait then
 abbrev pub awaited_by : (m : Moment) (a : Point) (c : Connection) (d : Draft)
     → IsAskedBy m a c d → Option (Asking × ℕ)
 awaited_by m a c d (by_host q rest is draft none) = Some (q, next_number a.state.bus)
-awaited_by m a c d (by_far who on) = a.asked
+awaited_by m a c d (by_far who on unloaded) = a.asked
+awaited_by m a c d (by_loader x going who on) = a.asked
+
+-- the modules then
+abbrev pub modules_by : (m : Moment) (a : Point) (c : Connection) (d : Draft)
+    → IsAskedBy m a c d → List Plugged
+modules_by m a c d (by_host q rest is draft none) = a.state.modules
+modules_by m a c d (by_far who on unloaded) = a.state.modules
+modules_by m a c d (by_loader x going who on) = modules_gone x a.state.modules
+
+-- the last requests of firmware devices then
+abbrev pub loads_by : (m : Moment) (a : Point) (c : Connection) (d : Draft)
+    → IsAskedBy m a c d → List Load
+loads_by m a c d (by_host q rest is draft none) = a.state.loads
+loads_by m a c d (by_far who on unloaded) = a.state.loads
+loads_by m a c d (by_loader x going who on) =
+    loads_gone x (next_number a.state.bus) a.state.loads
+
+-- the trails of running downloads then
+abbrev pub trails_by : (m : Moment) (a : Point) (c : Connection) (d : Draft)
+    → IsAskedBy m a c d → List Trail
+trails_by m a c d (by_host q rest is draft none) = a.state.past.loading
+trails_by m a c d (by_far who on unloaded) = a.state.past.loading
+trails_by m a c d (by_loader x going who on) =
+    trails_gone x d.connection (next_number a.state.bus) a.state.past.loading
+
+-- The state once a request of a draft is made.
+abbrev pub state_by : (m : Moment) (a : Point) (c : Connection) (d : Draft) (label : ℕ)
+    → IsAskedBy m a c d → State
+state_by m a c d label who = record a.state {
+  bus = sent d label a.state.bus;
+  modules = modules_by m a c d who;
+  loads = loads_by m a c d who;
+  past = record a.state.past { loading = trails_by m a c d who };
+}
 
 -- Where the application processor takes notice of something, no request was made at the moment
 -- yet, unless it is an insertion, or the end of one that wasn't answered. A sequence goes on with
@@ -204,7 +255,8 @@ pub data Change (m : Moment) (a : Point) : Type 0 where
   drops : Change m a
   holds : (h : Hand) → a.hand ≡ Some h → h.side ≡ side.Far → Change m a
   replies : (h : Hand) (q : Incoming) (r : Answer) → a.hand ≡ Some h
-      → request_in h.item a.state.bus ≡ Some q → q.oneway ≡ false → Change m a
+      → request_in h.item a.state.bus ≡ Some q → (q.oneway ≡ false) × AnswersAs m a h q r
+      → Change m a
   answers : (h : Hand) (n result : ℕ) (payload : List ℕ) → a.hand ≡ Some h → Says h n result payload
       → Answers h n a.state.bus → Change m a
   forgets : (h : Hand) (n : ℕ) → a.hand ≡ Some h → Forgets h n a.state.bus → Change m a
@@ -245,15 +297,22 @@ pub data Change (m : Moment) (a : Point) : Type 0 where
   -- it is remembered which request told that an interface was pulled, whose power is off
   recalls : (n i : ℕ) → IsOfSvc m.event
       → (is_some (request_of n a.state.bus) ≡ true) × (level_of i a.state.ports ≡ 0) → Change m a
-  -- something else changes that is no matter of requests
+  -- a firmware device's download is done, or the downloads of an interface are forgotten
+  finishes : (i c : ℕ) (x : Module) (tag : List ℕ) (size : ℕ) → IsIdle a
+      → HearsBack m a.state i c x (next.Done tag size) → Change m a
+  unloads : (i : ℕ) → IsOfSvc m.event → module_at i a.state.modules ≡ None → Change m a
+  -- the application processor is given an image
+  gives : (tag bytes : List ℕ) → (a.pending ≡ []) × (m.event ≡ event.Image tag bytes)
+      → image_of tag a.state.host.images ≡ None → Change m a
+  -- something else changes that is no matter of requests; a firmware device's download may fail
   others : (booted : Bool) (marks : List ℕ) (ports : List Port) (modules : List Plugged)
-      → IsElse m a booted marks ports modules → Change m a
+      → IsElse m a booted marks ports modules × KeepLoaders a.state.modules modules → Change m a
 
 -- the point after a single change
 abbrev pub changed : (m : Moment) (a : Point) → Change m a → Point
 changed m a (tells e quiet) = on a.state (e ∷ []) a
 changed m a (asks d c label free live drawn who) =
-    record (on_bus (sent d label a.state.bus) (asked_told d c label a.state.bus) a) {
+    record (on (state_by m a c d label who) (asked_told d c label a.state.bus) a) {
       asked = awaited_by m a c d who;
     }
 changed m a (names name d c label free live drawn host) =
@@ -289,7 +348,7 @@ changed m a (unwires k free unwired live) =
     record (on (with_unwired k a.state) (map disconnected_told (open_on k side.Far a.state.bus)) a)
     { wires = Unwired }
 changed m a (injects i c p bytes free named) =
-    on_bus (injected p.connection.number bytes a.state.bus)
+    on (with_injected p.connection.number bytes a.state)
     (entry.Raw (end.Module i c) (end.Ap p.connection.ap) (length bytes) bytes ∷ []) a
 changed m a (turns x free untouched none cause) =
     record (on (record a.state { host = (turn_of x a.state.host).host }) [] a)
@@ -315,6 +374,10 @@ changed m a (spends i c what none) =
     on (record a.state { host = with_link i c (spent what) a.state.host }) [] a
 changed m a (passes millis) = on (record a.state { now = a.state.now + millis }) [] a
 changed m a (recalls n i of made) = on (with_told n (i ∷ []) a.state) [] a
+changed m a (finishes i c x tag size idle is) = on (with_done i c x a.state) [] a
+changed m a (unloads i of gone) = on (unloaded i a.state) [] a
+changed m a (gives tag bytes at none) =
+    on (record a.state { host = with_given tag bytes a.state.host }) [] a
 changed m a (others booted marks ports modules same) =
     on (record a.state { booted = booted; holds = marks; ports = ports; modules = modules }) [] a
 
