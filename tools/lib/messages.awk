@@ -12,7 +12,7 @@ function type_row(protocol, side, type, name, request, response) {
 }
 
 BEGIN {
-    split("svc SVC 00 Control 02 GPIO 03 I2C 04 UART 0b SPI 11 Loopback", pairs, " ")
+    split("svc SVC 00 Control 02 GPIO 03 I2C 04 UART 0b SPI 11 Loopback 17 Firmware", pairs, " ")
     for (i = 1; i in pairs; i += 2) protocol_name[pairs[i]] = pairs[i + 1]
 
     split("00 SUCCESS 01 INTERRUPTED 02 TIMEOUT 03 NO_MEMORY 04 PROTOCOL_BAD 05 OVERFLOW " \
@@ -79,6 +79,10 @@ BEGIN {
     type_row("11", "ap", "02", "PING", "", "")
     type_row("11", "ap", "03", "TRANSFER", "data:carried", "data:carried")
     type_row("11", "ap", "04", "SINK", "data:carried", "")
+
+    type_row("17", "far", "01", "FIND", "tag:text10", "id:u8 size:u32")
+    type_row("17", "far", "02", "FETCH", "id:u8 offset:u32 size:u32", "bytes:rest")
+    type_row("17", "far", "03", "RELEASE", "id:u8", "")
 
     split("0 none 1 rising 2 falling 3 both 4 high 8 low", pairs, " ")
     for (i = 1; i in pairs; i += 2) irq_name[pairs[i]] = pairs[i + 1]
@@ -166,7 +170,7 @@ function field(name, kind,    value) {
     if (kind ~ /^u/) return name " " take_number(substr(kind, 2) / 8)
     if (kind ~ /^x/) return name " " take_digits(substr(kind, 2) / 8)
     if (kind == "count8") return name " " take_number(1) + 1
-    if (kind == "text32") return name " " text_of(take_hex(32))
+    if (kind ~ /^text/) return name " " text_of(take_hex(substr(kind, 5)))
     if (kind == "rest") return name " " or_none(take_hex(length(payload) / 2))
     if (kind == "sized") return name " " or_none(take_hex(take_number(2)))
     if (kind == "i2c") return i2c_ops(take_number(2))

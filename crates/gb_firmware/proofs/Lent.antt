@@ -1,16 +1,14 @@
 -- What the application processor's images are after each request.
 use Rattle.std.proofs.Common.{◌≡◌, ◌+◌, ◌==◌, ℕ, suc, Bool, true, false, cond, not, ltb}
 use Rattle.std.proofs.Common.{Option, Some, None, MatchOption, option_map, List, [], ◌∷◌}
-use Rattle.std.proofs.Common.{◌++◌, length, length-append, take, find, refl, sym, ap, subst, ◌∙◌}
+use Rattle.std.proofs.Common.{◌++◌, length, length-append, take, refl, sym, ap, subst, ◌∙◌}
 use Rattle.std.proofs.Common.{arith}
 use Rattle.std.specs.List.{list_any, position_or_len}
 use Rattle.std.proofs.lemmas.Bool.Decides.{nat_tests}
-use Rattle.std.proofs.lemmas.Option.{same_Some}
-use Rattle.std.proofs.lemmas.Slice.Eq.{bytes_eq-Decides}
 use Rattle.gb_base.specs.declared.served.Served.{Served}
 use Rattle.gb_formats.specs.FirmwareRecords.{FirmwareReply, firmware_reply_payload}
 use Rattle.gb_formats.specs.Images.{Image, Images, Loan, finds, find_step, forgotten, free_id}
-use Rattle.gb_formats.specs.Images.{has_tag, image_of, is_loan, lends, release_step, replies}
+use Rattle.gb_formats.specs.Images.{image_of, is_loan, lends, release_step, replies}
 use Rattle.gb_formats.specs.Images.{tag_spelled, with_loan}
 use Rattle.gb_formats.specs.Lists.{without}
 use Rattle.gb_formats.specs.Results.{Step, answer_of}
@@ -23,19 +21,6 @@ pub matched : {A B : Type 0} (v : A → B) (r : Option A) (found : Option B)
 matched v None found e = sym e
 matched v (Some x) found e = sym e
 
--- the first image that has a tag has it
-pub found_tag : (tag : List ℕ) (given : List Image) (image : Image)
-    → find (has_tag tag) given ≡ Some image → image.tag ≡ tag
-found_tag tag [] image e = cc
-found_tag tag (x ∷ xs) image e = by (has_tag tag x) refl (found_tag tag xs image) e
-  where
-    by : (test : Bool) → has_tag tag x ≡ test
-        → (find (has_tag tag) xs ≡ Some image → image.tag ≡ tag)
-        → cond test (Some x) (find (has_tag tag) xs) ≡ Some image → image.tag ≡ tag
-    by true t later h =
-        (bytes_eq-Decides image.tag tag).0 (ap (has_tag tag) (sym (same_Some x image h)) ∙ t)
-    by false t later h = later h
-
 -- ---- tags
 
 abbrev pub is_zero : ℕ → Bool
@@ -47,7 +32,7 @@ spelled_more b rest true = refl
 spelled_more b rest false = refl
 
 -- the bytes before this place, where it lies in the field
-abbrev pub spelled_to : ℕ → List ℕ → Option (List ℕ)
+abbrev spelled_to : ℕ → List ℕ → Option (List ℕ)
 spelled_to place field = cond (ltb place (length field)) (Some (take place field)) None
 
 spelled_later : (b place : ℕ) (bs : List ℕ)
@@ -61,7 +46,7 @@ spelled_later b place bs =
     ∙ ap (λ n. spelled_to n (b ∷ bs)) next
 
 -- the bytes before the first zero
-pub spelled_at : (field : List ℕ)
+spelled_at : (field : List ℕ)
     → tag_spelled field ≡ spelled_to (position_or_len is_zero field) field
 spelled_at [] = refl
 spelled_at (b ∷ bs) = by (b == 0) (spelled_at bs)

@@ -1,6 +1,6 @@
 //! Lines of the report, of a dump and of a check.
 
-use gb_base::{Bytes, End, Entry, LineReason, Outcome, Reading, Reason, Text};
+use gb_base::{Bytes, End, Entry, LineReason, Outcome, Reading, Reason, Tag, Text};
 use gb_manifest::{Refused, check};
 use gb_report::{Counts, put, put_accepted, put_dump, put_refusal, put_refused, put_summary};
 use std::alloc::Global;
@@ -34,6 +34,24 @@ fn answered(rt: &impl Abort, alloc: Global, bytes: &[u8]) -> Entry {
         outcome: Outcome::Answered { result: 0, payload },
         reading: Reading::Number(7),
     }
+}
+
+/// A download of `boot` that is over.
+fn loaded(rt: &impl Abort, size: Option<u32>) -> Entry {
+    Entry::Download {
+        intf: 2,
+        cport: 1,
+        tag: Tag::from_bytes(b"boot").expect(rt, "a tag"),
+        size,
+    }
+}
+
+#[test]
+fn downloads_have_their_lines(rt: HostRuntime) {
+    let alloc = rt.alloc();
+    let told = "download 2 1 boot done 4294967295\n";
+    is_told(&rt, alloc, &loaded(&rt, Some(u32::MAX)), told);
+    is_told(&rt, alloc, &loaded(&rt, None), "download 2 1 boot failed\n");
 }
 
 #[test]

@@ -143,8 +143,8 @@ fn plugs(event: &Event, wanted: &[Kind]) -> bool {
 
 #[test]
 fn reads_kinds(rt: HostRuntime) {
-    says(&rt, rt.alloc(), b"insert 2 gpio uart", |event| {
-        plugs(event, &[Kind::Gpio, Kind::Uart])
+    says(&rt, rt.alloc(), b"insert 2 gpio firmware", |event| {
+        plugs(event, &[Kind::Gpio, Kind::Firmware])
     });
 }
 
@@ -161,6 +161,25 @@ fn reads_raw_bytes(rt: HostRuntime) {
             cport: 1,
             bytes,
         } => bytes.items().is_empty(),
+        _ => false,
+    });
+}
+
+#[test]
+fn reads_images(rt: HostRuntime) {
+    let alloc = rt.alloc();
+    says(&rt, alloc, b"image boot9 0aFf", |event| match event {
+        Event::Image { tag, bytes } => {
+            tag.bytes() == b"boot9".as_slice() && bytes.items() == b"\x0a\xff".as_slice()
+        }
+        _ => false,
+    });
+    says(&rt, alloc, b"load 31 4095 abcdefgh9", |event| match event {
+        Event::Load {
+            intf: 31,
+            cport: 4095,
+            tag,
+        } => tag.bytes() == b"abcdefgh9".as_slice(),
         _ => false,
     });
 }

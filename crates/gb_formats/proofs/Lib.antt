@@ -12,6 +12,7 @@ pub mod VectorsBridges
 pub mod VectorsCaptures
 pub mod VectorsDevices
 pub mod VectorsEntries
+pub mod VectorsFirmware
 pub mod VectorsForms
 pub mod VectorsGpioDevice
 pub mod VectorsGpioI2cRecords

@@ -72,7 +72,7 @@ decode_pairs-few i [] bytes is = subst (λ r. len r ≤ 0) is (omega arith)
 decode_pairs-few i (digit ∷ []) bytes is = absurd cc
 decode_pairs-few i (high ∷ low ∷ rest) bytes is =
     let few = joined-few (length rest) (pair_value high low i) (decode_pairs (i + 2) rest) bytes
-        (λ xs so. decode_pairs-few (i + 2) rest xs so) is in
+    (λ xs so. decode_pairs-few (i + 2) rest xs so) is in
     omega arith
 
 decode_of-few : (w bytes : List ℕ) → decode_of w ≡ Ok bytes → length bytes ≤ length w

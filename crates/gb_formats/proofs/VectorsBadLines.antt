@@ -103,6 +103,20 @@ bad_lines =
     ∷ (codes "inject 2 1", Err (bad.MissingWord 4))
     ∷ (codes "inject 2 1 0g", Err (bad.BadWord 4))
     ∷ (codes "inject 2 1 00 x", Err (bad.ExtraWord 5))
+    ∷ (codes "image", Err (bad.MissingWord 2))
+    ∷ (codes "image Boot", Err (bad.BadWord 2))
+    ∷ (codes "image @boot 00", Err (bad.BadWord 2))
+    ∷ (codes "image abcdefghij 0", Err (bad.BadWord 2))
+    ∷ (codes "image boot", Err (bad.MissingWord 3))
+    ∷ (codes "image boot 0", Err (bad.BadWord 3))
+    ∷ (codes "image boot 00 x", Err (bad.ExtraWord 4))
+    ∷ (codes "load", Err (bad.MissingWord 2))
+    ∷ (codes "load boot", Err (bad.BadWord 2))
+    ∷ (codes "load 2 4096 Boot", Err (bad.BadWord 3))
+    ∷ (codes "load 2 1", Err (bad.MissingWord 4))
+    ∷ (codes "load 2 1 Boot x", Err (bad.BadWord 4))
+    ∷ (codes "load 2 1 abcdefghij", Err (bad.BadWord 4))
+    ∷ (codes "load 2 1 boot x", Err (bad.ExtraWord 5))
     ∷ []
 
 pub bad_lines-said : map (λ row. judged 0 row.0) bad_lines ≡ map (λ row. row.1) bad_lines

@@ -93,6 +93,12 @@ pub loopback-bytes : kind_manifest kind.Loopback
     ∷ 8 ∷ 0 ∷ 4 ∷ 0 ∷ 0 ∷ 0 ∷ 0 ∷ 0 ∷ 8 ∷ 0 ∷ 4 ∷ 0 ∷ 1 ∷ 0 ∷ 1 ∷ 0x11 ∷ [])
 loopback-bytes = refl
 
+pub firmware-bytes : kind_manifest kind.Firmware
+    ≡ 76 ∷ 0 ∷ 0 ∷ 1 ∷ begins ++ (16 ∷ 0 ∷ 2 ∷ 0 ∷ 8 ∷ 2 ∷ codes "Firmware" ++ 0 ∷ 0 ∷ [])
+    ++ (8 ∷ 0 ∷ 3 ∷ 0 ∷ 0 ∷ 0 ∷ 0 ∷ 0 ∷ 8 ∷ 0 ∷ 3 ∷ 0 ∷ 1 ∷ 0xff ∷ 0 ∷ 0
+    ∷ 8 ∷ 0 ∷ 4 ∷ 0 ∷ 0 ∷ 0 ∷ 0 ∷ 0 ∷ 8 ∷ 0 ∷ 4 ∷ 0 ∷ 1 ∷ 0 ∷ 1 ∷ 0x17 ∷ [])
+firmware-bytes = refl
+
 -- ---- a UART: 2,037 bytes at most, and what it sends back
 
 pub most-bytes : (uart_asked (UartAsk.SendData (replicate 2037 7))).result ≡ 0

@@ -42,9 +42,11 @@ connected k = after_all (module_of_kind k) ((0, 0x05, 1 ∷ 0 ∷ []) ∷ [])
 
 -- the manifest of a kind makes the same module
 pub kinds-raw : map (λ k. module_raw (kind_manifest k))
-    (kind.Gpio ∷ kind.I2c ∷ kind.Spi ∷ kind.Uart ∷ kind.Bridge ∷ kind.Loopback ∷ [])
+    (kind.Gpio ∷ kind.I2c ∷ kind.Spi ∷ kind.Uart ∷ kind.Bridge ∷ kind.Loopback
+    ∷ kind.Firmware ∷ [])
     ≡ map module_of_kind
-    (kind.Gpio ∷ kind.I2c ∷ kind.Spi ∷ kind.Uart ∷ kind.Bridge ∷ kind.Loopback ∷ [])
+    (kind.Gpio ∷ kind.I2c ∷ kind.Spi ∷ kind.Uart ∷ kind.Bridge ∷ kind.Loopback
+    ∷ kind.Firmware ∷ [])
 kinds-raw = refl
 
 -- bytes that are no manifest make no CPort

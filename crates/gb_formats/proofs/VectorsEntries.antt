@@ -107,6 +107,11 @@ entry_lines =
     ∷ (entry.Received 2 4 [], codes "uart 2 4 received -")
     ∷ (entry.Serial 2 4 255, codes "serial 2 4 255")
     ∷ (entry.Credits 2 4 4096, codes "credits 2 4 4096")
+    ∷ (entry.Download 2 1 (codes "boot") (Some 3), codes "download 2 1 boot done 3")
+    ∷ (
+      entry.Download 31 4095 (codes "abcdefgh9") None,
+      codes "download 31 4095 abcdefgh9 failed",
+    )
     ∷ (entry.Settled 26, codes "settled 26")
     ∷ (entry.Shown (codes "now 0"), codes "now 0")
     ∷ []

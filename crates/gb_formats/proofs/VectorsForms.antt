@@ -21,6 +21,7 @@ form_lines =
     ∷ (codes "insert 2 spi", Ok (Some (event.Insert 2 (kind.Spi ∷ []))))
     ∷ (codes "insert 2 uart", Ok (Some (event.Insert 2 (kind.Uart ∷ []))))
     ∷ (codes "insert 2 loopback", Ok (Some (event.Insert 2 (kind.Loopback ∷ []))))
+    ∷ (codes "insert 2 firmware", Ok (Some (event.Insert 2 (kind.Firmware ∷ []))))
     ∷ (codes "insert 2 bridge", Ok (Some (event.Insert 2 (kind.Bridge ∷ []))))
     ∷ (codes "insert 2 gpio uart", Ok (Some (event.Insert 2 (kind.Gpio ∷ kind.Uart ∷ []))))
     ∷ (
@@ -72,6 +73,9 @@ form_lines =
     )
     ∷ (codes "tick 1", Ok (Some (event.Tick 1)))
     ∷ (codes "inject 2 1 0800", Ok (Some (event.Inject 2 1 (8 ∷ 0 ∷ []))))
+    ∷ (codes "image boot 000aFf", Ok (Some (event.Image (codes "boot") (0 ∷ 10 ∷ 255 ∷ []))))
+    ∷ (codes "image 0 -", Ok (Some (event.Image (codes "0") [])))
+    ∷ (codes "load 31 4095 abcdefgh9", Ok (Some (event.Load 31 4095 (codes "abcdefgh9"))))
     ∷ (codes "show", Ok (Some event.Show))
     ∷ (codes "  show  ", Ok (Some event.Show))
     ∷ []

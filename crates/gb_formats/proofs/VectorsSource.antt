@@ -106,8 +106,9 @@ unfolding sections_from string_after digits encode_with
 bridge-back = refl
 
 pub kinds-back : map (λ k. compile_answer (source_text (kind_spec k)))
-    (kind.I2c ∷ kind.Spi ∷ kind.Uart ∷ kind.Loopback ∷ [])
-    ≡ map (λ k. Ok (kind_manifest k)) (kind.I2c ∷ kind.Spi ∷ kind.Uart ∷ kind.Loopback ∷ [])
+    (kind.I2c ∷ kind.Spi ∷ kind.Uart ∷ kind.Loopback ∷ kind.Firmware ∷ [])
+    ≡ map (λ k. Ok (kind_manifest k))
+    (kind.I2c ∷ kind.Spi ∷ kind.Uart ∷ kind.Loopback ∷ kind.Firmware ∷ [])
 unfolding sections_from string_after digits encode_with
 kinds-back = refl
 

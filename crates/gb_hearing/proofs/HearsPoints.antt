@@ -2,7 +2,7 @@
 -- at a point.
 use Rattle.std.proofs.Common.{◌≡◌, ◌<◌, ℕ, Bool, true, false, Some, List, []}
 use Rattle.std.proofs.Common.{◌∷◌, ◌++◌, refl, sym, ap, ◌∙◌, append_assoc, cond, map}
-use Rattle.std.proofs.Common.{subst}
+use Rattle.std.proofs.Common.{subst, ⊎_elim}
 use Rattle.std.proofs.lemmas.List.{map-append}
 use Rattle.std.proofs.lemmas.List.Elements.{filter-append}
 use Rattle.std.specs.List.{filter}
@@ -11,18 +11,21 @@ use Rattle.gb_hearing.specs.Hearing.{Spoken, asked, asking}
 use Rattle.gb_hearing.proofs.Findings.{onto, onto-append}
 use Rattle.gb_hearing.proofs.Hears.{Hears, IsAsked, IsSteady, Steady, hears-steady, steady-by}
 use Rattle.gb_hearing.proofs.HearsAsked.{hears-oneway, hears-twoway, hears-unasked}
-use Rattle.gb_invariants.proofs.Awaiting.{is-of, is_of-is, not-both, same-some}
+use Rattle.gb_invariants.proofs.Awaiting.{is-of, is_of-is, none-some, not-both, same-some}
+use Rattle.gb_invariants.proofs.Awaiting.{sent-before}
+use Rattle.gb_invariants.proofs.BusChanges.{BusChange, awaits-after, bus_after}
 use Rattle.gb_invariants.specs.Facts.{OutcomesFit}
-use Rattle.gb_laws.proofs.points.ChangeBuses.{bus_change, by-bus}
+use Rattle.gb_laws.proofs.marks.Marks.{next-none}
+use Rattle.gb_laws.proofs.points.ChangeBuses.{bus_change, by-bus, keeps-requests}
 use Rattle.gb_laws.proofs.links.LinkSides.{shut_of}
 use Rattle.gb_laws.proofs.identifiers.LowRequests.{asked-low}
 use Rattle.gb_laws.proofs.runs.Midway.{KnownAt}
 use Rattle.gb_laws.proofs.opened.OpenActs.{upon-asked, upon-line}
 use Rattle.gb_laws.proofs.points.PointParts.{Point}
 use Rattle.gb_laws.proofs.points.Points.{Change, answers, asks, changed, forgets, gives_up, names}
-use Rattle.gb_machine.specs.Bus.{Bus, Request}
+use Rattle.gb_machine.specs.Bus.{Bus, Request, request_of}
 use Rattle.gb_machine.specs.Labels.{next_label}
-use Rattle.gb_machine.specs.LawsBus.{OwnLabels}
+use Rattle.gb_machine.specs.LawsBus.{OwnLabels, is_awaited}
 use Rattle.gb_machine.specs.Requests.{is_of}
 use Rattle.gb_machine.specs.Runs.{Moment}
 use Rattle.gb_machine.specs.Sending.{Draft, label_for, requested, sent}
@@ -143,3 +146,41 @@ hears-kept m k start a (answers x n result payload is says which) known away h =
 hears-kept m k start a (forgets x n is which) known away h =
     steady-kept m k start a (forgets x n is which) known tt away h
 hears-kept m k start a x known away h = steady-kept m k start a x known tt away h
+
+-- ---- requests that ended
+
+-- request n was made, and isn't awaited any more
+pub record IsEnded (n : ℕ) (b : Bus) : Type 0 where
+  pub request : Request
+  pub made : request_of n b ≡ Some request
+  pub ended : is_awaited n b ≡ false
+
+sent-ended : (d : Draft) (label n : ℕ) (b : Bus) → OutcomesFit b → IsEnded n b
+    → is_awaited n (sent d label b) ≡ true → ⊥
+sent-ended d label n b fits h e = ⊎_elim (λ w. not-both (is_awaited n b) w h.ended)
+    (λ new. none-some (sym (next-none b) ∙ ap (λ j. request_of j b) (sym new.0) ∙ h.made))
+    (sent-before d label b n fits e)
+
+-- It isn't awaited again.
+pub ended-kept : (m : Moment) (n : ℕ) (a : Point) (x : Change m a) → KnownAt a
+    → IsEnded n a.state.bus → IsEnded n (changed m a x).state.bus
+ended-kept m n a x known h = record {
+  request = h.request;
+  made = keeps-requests m a x n h.request h.made;
+  ended = by-bus (λ b. is_awaited n b ≡ false) x
+      (by (is_awaited n (bus_after (bus_change x) a.state.bus)) refl);
+}
+  where
+    waits : (x : Change m a) → is_awaited n (bus_after (bus_change x) a.state.bus) ≡ true → ⊥
+    waits (asks d c label free live drawn who) e =
+        sent-ended d label n a.state.bus known.basis.bus.outcomes h e
+    waits (names name d c label free live drawn host) e =
+        sent-ended d label n a.state.bus known.basis.bus.outcomes h e
+    waits (gives_up k how free unended cause) e = not-both (is_awaited n a.state.bus)
+        ((awaits-after (BusChange.gives_up k how) a.state.bus unended).before n e) h.ended
+    waits x e = not-both (is_awaited n a.state.bus)
+        ((awaits-after (bus_change x) a.state.bus tt).before n e) h.ended
+
+    by : (t : Bool) → is_awaited n (bus_after (bus_change x) a.state.bus) ≡ t → t ≡ false
+    by true e = absurd (waits x e)
+    by false e = refl

@@ -8,11 +8,13 @@ use Rattle.gb_base.specs.declared.end.Side.TheVariants as side
 use Rattle.gb_base.specs.declared.entry.Entry.{Entry}
 use Rattle.gb_base.specs.declared.entry.Entry.TheVariants as entry
 use Rattle.gb_base.specs.declared.event.Event.TheVariants as event
+use Rattle.gb_base.specs.declared.outcome.Outcome.TheVariants as outcome
 use Rattle.gb_formats.specs.Message.{response}
+use Rattle.gb_formats.specs.Results.{success}
 use Rattle.gb_hearing.specs.Hearing.{Spoken, heard_asked}
 use Rattle.gb_hearing.proofs.Findings.{onto}
 use Rattle.gb_hearing.proofs.Hears.{Hears, IsAsked, Steady, hears-steady, over-same, steady-by}
-use Rattle.gb_hearing.proofs.HearsSteps.{hears-first, hears-then, hears_acts}
+use Rattle.gb_hearing.proofs.HearsSteps.{behind_law, hears-first, hears-then, none-hand}
 use Rattle.gb_hearing.proofs.HearsTaken.{IsReplied, hears-reply}
 use Rattle.gb_invariants.proofs.Awaiting.{Awaits, awaits, ended-after, ended-before}
 use Rattle.gb_invariants.proofs.Awaiting.{forgotten-after, forgotten-before, is-open, late}
@@ -25,8 +27,9 @@ use Rattle.gb_laws.proofs.steps.DeliveredHands.{over-ended}
 use Rattle.gb_laws.proofs.identifiers.LowRequests.{reached-low}
 use Rattle.gb_laws.proofs.runs.Midway.{KnownAt, known-held, known-resting, known_law}
 use Rattle.gb_laws.proofs.points.Places.{place-is}
-use Rattle.gb_laws.proofs.points.PointParts.{Untouched, resting}
-use Rattle.gb_laws.proofs.points.Points.{Change, answers, by_number, changed, numbered, takes}
+use Rattle.gb_laws.proofs.points.PointParts.{Hand, Point, Untouched, resting}
+use Rattle.gb_laws.proofs.points.Points.{Answers, Change, IsHeard, answers, by_number, changed}
+use Rattle.gb_laws.proofs.points.Points.{numbered, takes}
 use Rattle.gb_machine.proofs.Opened.{machine_opened}
 use Rattle.gb_machine.proofs.Steps.{deliver-allowed, delivers-by_number, delivers-drops}
 use Rattle.gb_machine.proofs.Steps.{delivers-late, step-deliver, with_bus}
@@ -44,7 +47,8 @@ use Rattle.gb_machine.specs.Reached.{OfARun}
 use Rattle.gb_machine.specs.Refusals.{is_end_unplugged}
 use Rattle.gb_machine.specs.Runs.{Moment, after}
 use Rattle.gb_machine.specs.State.{State}
-use Rattle.gb_laws.proofs.steps.StepIdles.{goes-follows}
+use Rattle.gb_laws.proofs.steps.Heard.{heard}
+use Rattle.gb_laws.proofs.steps.StepLoads.{goes-follows}
 
 -- a request that was forgotten, and isn't open, isn't awaited
 forgotten-over : (n : ℕ) (b : Bus) → is_open n b ≡ false → is_awaited n (forgotten n b) ≡ false
@@ -175,22 +179,41 @@ module _ (m : Moment) (run : OfARun m.before) (k : ℕ) (at : End) (is : m.event
           outcomes = let o = known.basis.bus.outcomes in
               record { once = o.once; made = o.made; given = o.given; oneway = o.oneway }
 
-      -- what is known holds there
+      -- the response is taken
+      abbrev its_hand : Hand
+      its_hand = record {
+        connection = p.connection;
+        side = p.side;
+        item = Reply n result payload;
+      }
+
+      abbrev taking : Change m (resting m.told m.before)
+      taking = takes at p (Reply n result payload) refl refl is named front
+
+      abbrev mid_point : Point
+      mid_point = changed m (resting m.told m.before) taking
+
+      mid_known : (known_law m run).holds mid_point
+      mid_known = (known_law m run).kept (resting m.told m.before) taking (known-resting m run)
+
+      its_answer : is_open n m.before.bus ≡ true → Answers its_hand n mid_point.state.bus
+      its_answer open_ = by_number result payload refl clean open_
+
+      -- what is known holds where it ended the request
       mid : (open_ : is_open n m.before.bus ≡ true) → (es : List Entry) × (known_law m run).holds
           (record (resting es then_state) { wires = Untouched })
       mid open_ =
-          let first_ : Change m (resting m.told m.before) =
-          takes at p (Reply n result payload) refl refl is named front in
-          let a = changed m (resting m.told m.before) first_ in
-          let second : Change m a = answers (record {
-            connection = p.connection;
-            side = p.side;
-            item = Reply n result payload;
-          }) n result payload refl (numbered refl) (by_number result payload refl clean open_) in (
-            (changed m a second).told,
-            (known_law m run).kept a second
-                ((known_law m run).kept (resting m.told m.before) first_ (known-resting m run)),
-          )
+          let second : Change m mid_point =
+          answers its_hand n result payload refl (numbered refl) (its_answer open_) in
+          ((changed m mid_point second).told, (known_law m run).kept mid_point second mid_known)
+
+      -- where it is an answer of success, it is heard so
+      heard_so : is_open n m.before.bus ≡ true → (bytes : List ℕ)
+          → answered result payload ≡ outcome.Answered success bytes → IsHeard m n bytes
+      heard_so open_ bytes won =
+          heard m mid_point.state its_hand n result payload bytes _
+          (record { at = at; event = is; named = named; front = front; from = refl })
+          (known-held m run mid_point mid_known).basis.bus (numbered refl) (its_answer open_) won
 
       hears-ended : is_open n m.before.bus ≡ true → {past : List Spoken} → Hears k m.before.bus past
           → Hears k (after m).bus
@@ -200,17 +223,20 @@ module _ (m : Moment) (run : OfARun m.before) (k : ℕ) (at : End) (is : m.event
       hears-ended open_ {past} h =
           let start : List Spoken = (false, response r.label r.kind result payload) ∷ past in
           let then_ = mid open_ in
-          let end_ = goes-follows m (hears_acts m run k start)
-          (λ a now. (known-held m run a now.0).basis.drains) n (answered result payload) then_state
-          (λ c bytes e. ((replied open_).ended, refl)) then_.0 (
+          let end_ = goes-follows m (behind_law m run k start n waits) n (answered result payload)
+          then_state (λ c bytes e. ((replied open_).ended, refl))
+          (λ bytes won. (heard_so open_ bytes won, (refl, refl))) then_.0 (
             then_.1,
-            hears-first m run k start
-                then_bus refl (now then_bus (replied open_) h),
+            (
+              λ x e. absurd (none-hand x e),
+              hears-first m run k start then_bus refl (now then_bus (replied open_) h),
+              record { request = r; made = asked.made; ended = (replied open_).ended },
+            ),
           ) in
           subst (λ s. Hears k s.bus (onto start (heard_asked k m.before.bus s.bus)))
           (sym (ends-then open_))
           (hears-then m run k start
-          (follows n (answered result payload) then_state).state.bus end_.1)
+          (follows n (answered result payload) then_state).state.bus end_.1.1)
 
       pub hears-replied : {past : List Spoken} → Hears k m.before.bus past
           → Hears k (after m).bus

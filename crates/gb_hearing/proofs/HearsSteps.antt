@@ -1,6 +1,6 @@
 -- What is known of the messages that are heard of a connection goes over the step of an event,
--- where no response to the application processor is taken there, and over what it does then.
-use Rattle.std.proofs.Common.{◌≡◌, ℕ, true, Some, None, List, [], inl, refl}
+-- where no response to the application processor is taken there, and over what follows one.
+use Rattle.std.proofs.Common.{◌≡◌, ℕ, true, false, Some, None, List, [], inl, refl}
 use Rattle.std.proofs.Common.{sym, ap, ◌∙◌, append-nil, drop, length, map, subst, ◌==◌}
 use Rattle.std.proofs.Math.Seq.{drop-append_seam}
 use Rattle.gb_base.specs.declared.end.End.{End}
@@ -10,7 +10,7 @@ use Rattle.gb_base.specs.declared.event.Event.TheVariants as event
 use Rattle.gb_hearing.specs.Hearing.{Spoken, asked, heard_asked}
 use Rattle.gb_hearing.proofs.Findings.{onto}
 use Rattle.gb_hearing.proofs.Hears.{Hears, IsAsked}
-use Rattle.gb_hearing.proofs.HearsPoints.{HearsIn, IsAway, hears-kept}
+use Rattle.gb_hearing.proofs.HearsPoints.{HearsIn, IsAway, IsEnded, ended-kept, hears-kept}
 use Rattle.gb_invariants.proofs.Awaiting.{is_of-is, not-both, same-some}
 use Rattle.gb_invariants.proofs.Drawing.{given_up_with-is, open_with-in_use}
 use Rattle.gb_invariants.proofs.Outcomes.{both-true}
@@ -23,14 +23,15 @@ use Rattle.gb_laws.proofs.points.Points.{Answers, Change, Forgets, Law, answers,
 use Rattle.gb_laws.proofs.points.Points.{by_number}
 use Rattle.gb_laws.proofs.points.Points.{changed, drops, forgets, holds, replies, takes, takes_held}
 use Rattle.gb_laws.proofs.points.Points.{upon}
-use Rattle.gb_laws.proofs.steps.StepActLaws.{ActLaw, IsActing}
 use Rattle.gb_laws.proofs.steps.Steps.{over-step}
 use Rattle.gb_machine.specs.Bus.{Bus, Item, Place, Reply, Request, place_of, queue, request_of}
+use Rattle.gb_machine.specs.LawsBus.{is_awaited}
 use Rattle.gb_machine.specs.Lists.{first}
 use Rattle.gb_machine.specs.Members.{IsIn}
 use Rattle.gb_machine.specs.Reached.{OfARun}
 use Rattle.gb_machine.specs.Requests.{has_label, is_of}
 use Rattle.gb_machine.specs.Runs.{IsMoment, Moment, after}
+use Rattle.gb_machine.specs.State.{State}
 
 -- What is in hand is no response to the application processor on connection k, and where it came to
 -- that, the connection was clean.
@@ -53,16 +54,16 @@ IsApartAt k a = (h : Hand) → a.hand ≡ Some h → IsApart k h
 
 -- ---- hands
 
-none-hand : (h : Hand) → None ≡ Some h → ⊥
+pub none-hand : (h : Hand) → None ≡ Some h → ⊥
 none-hand h e = absurd cc
 
-apart-kept : (m : Moment) (k : ℕ) → TakesApart k m → (a : Point) (x : Change m a) → IsApartAt k a
-    → IsApartAt k (changed m a x)
-apart-kept m k apart a (takes at p item free start is named front) h x e =
+pub apart-kept : (m : Moment) (k : ℕ) (a : Point) → (a.state ≡ m.before → TakesApart k m)
+    → (x : Change m a) → IsApartAt k a → IsApartAt k (changed m a x)
+apart-kept m k a apart (takes at p item free start is named front) h x e =
     subst (IsApart k)
     (same-some (record { connection = p.connection; side = p.side; item = item }) x e)
-    (apart at p item is named front)
-apart-kept m k apart a (takes_held i c place p held free start is named there) h x e =
+    (apart start at p item is named front)
+apart-kept m k a apart (takes_held i c place p held free start is named there) h x e =
     subst (IsApart k) (same-some (record {
       connection = p.connection;
       side = p.side;
@@ -76,12 +77,12 @@ apart-kept m k apart a (takes_held i c place p held free start is named there) h
     far ap_side =
         let named_is = place-is (end.Module i c) m.before.bus.connections p named in
         ap-no-far (sym ap_side ∙ module-far i c p.side p.connection named_is.is)
-apart-kept m k apart a drops h x e = absurd (none-hand x e)
-apart-kept m k apart a (holds y is far) h x e = absurd (none-hand x e)
-apart-kept m k apart a (replies y q r is made twoway) h x e = absurd (none-hand x e)
-apart-kept m k apart a (answers y n result payload is says which) h x e = absurd (none-hand x e)
-apart-kept m k apart a (forgets y n is which) h x e = absurd (none-hand x e)
-apart-kept m k apart a _ h x e = h x e
+apart-kept m k a apart drops h x e = absurd (none-hand x e)
+apart-kept m k a apart (holds y is far) h x e = absurd (none-hand x e)
+apart-kept m k a apart (replies y q r is made twoway) h x e = absurd (none-hand x e)
+apart-kept m k a apart (answers y n result payload is says which) h x e = absurd (none-hand x e)
+apart-kept m k a apart (forgets y n is which) h x e = absurd (none-hand x e)
+apart-kept m k a apart _ h x e = h x e
 
 -- a response in hand answers a request of its own side
 own-reply : (a : Point) (h : Hand) (n result : ℕ) (payload : List ℕ) (r : Request) → Basis a
@@ -128,7 +129,8 @@ forgets-away k a h n basis apart is (by_label label dirty found) r asked_is =
     (apart.clean (q.1 ∙ ap (λ (x : Request). x.side) same ∙ asked_is.by)
     (sym q.0 ∙ ap (λ (x : Request). x.connection) same ∙ asked_is.on)) dirty
 
-away : (m : Moment) (k : ℕ) (a : Point) (x : Change m a) → Basis a → IsApartAt k a → IsAway m k a x
+pub away : (m : Moment) (k : ℕ) (a : Point) (x : Change m a) → Basis a → IsApartAt k a
+    → IsAway m k a x
 away m k a (answers h n result payload is says which) basis apart =
     answers-away k a h n basis (apart h is) is which
 away m k a (forgets h n is which) basis apart = forgets-away k a h n basis (apart h is) is which
@@ -141,25 +143,22 @@ module _ (m : Moment) (run : OfARun m.before) (k : ℕ) (start : List Spoken) wh
   hears_law apart = upon (known_law m run)
       (λ a. IsApartAt k a × HearsIn m.before.bus.requests k start a.state.bus)
       (λ a x g h. (
-        apart-kept m k apart a x h.0,
+        apart-kept m k a (λ start. apart) x h.0,
         hears-kept m k start a x (known-held m run a g)
             (away m k a x (known-held m run a g).basis h.0) h.1,
       ))
 
-  pub acting-away : (a : Point) (x : Change m a) → IsActing m a x → IsAway m k a x
-  acting-away a (answers h n result payload is says which) acts = absurd acts
-  acting-away a (forgets h n is which) acts = absurd acts
-  acting-away a _ acts = tt
-
-  -- over what the application processor does
-  abbrev pub hears_acts : ActLaw m
-  hears_acts = record {
-    holds = λ a. (known_law m run).holds a × HearsIn m.before.bus.requests k start a.state.bus;
-    kept = λ a x acts h. (
-      (known_law m run).kept a x h.0,
-      hears-kept m k start a x (known-held m run a h.0) (acting-away a x acts) h.1,
-    );
-  }
+  -- behind the end of a request that was awaited before, where nothing is taken any more
+  abbrev pub behind_law : (n : ℕ) → is_awaited n m.before.bus ≡ true → Law m
+  behind_law n waits = upon (known_law m run)
+      (λ a. IsApartAt k a × HearsIn m.before.bus.requests k start a.state.bus
+      × IsEnded n a.state.bus) (λ a x g h. (
+        apart-kept m k a (λ same. absurd (not-both (is_awaited n m.before.bus) waits
+            (subst (λ (s : State). is_awaited n s.bus ≡ false) same h.2.ended))) x h.0,
+        hears-kept m k start a x (known-held m run a g)
+            (away m k a x (known-held m run a g).basis h.0) h.1,
+        ended-kept m n a x (known-held m run a g) h.2,
+      ))
 
   -- what was heard first, where no more was asked
   pub hears-first : (b : Bus) → b.requests ≡ m.before.bus.requests → Hears k b start

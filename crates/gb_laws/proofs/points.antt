@@ -14,3 +14,4 @@ pub mod Happened
 pub mod Overdue
 pub mod Naming
 pub mod LowTypes
+pub mod LoaderFacts

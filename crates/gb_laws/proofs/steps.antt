@@ -1,11 +1,16 @@
 -- Steps: a law goes over the actions of the machine, and over the step of each event.
+pub mod LoaderStays
+pub mod LoaderEnds
+pub mod LoadFailures
 pub mod StepActions
 pub mod StepActLaws
 pub mod StepActs
 pub mod StepModules
 pub mod StepIdles
+pub mod StepLoads
 pub mod StepServes
 pub mod StepSvcServes
+pub mod Heard
 pub mod StepMessages
 pub mod StepDelivers
 pub mod Ticking

@@ -5,7 +5,6 @@ use Rattle.gb_machine.specs.LawsCredits.{CreditsAddUp}
 use Rattle.gb_machine.specs.LawsDraining.{DrainedComeToAnEnd}
 use Rattle.gb_machine.specs.LawsEnds.{AnsweredByItsResponder, EndsAreTold, EndsAtMostOnce}
 use Rattle.gb_machine.specs.LawsEnds.{EveryEndHasItsCause}
-use Rattle.gb_machine.specs.LawsFirmware.{FetchedIsTheImage, KeptIsTheImage}
 use Rattle.gb_machine.specs.LawsHotPlug.{NoForeignMessage, NothingLeftAfterRemoval, WiredAtMostOnce}
 use Rattle.gb_machine.specs.LawsSvc.{AwaitedIsTheLast, OneEnumerationRequestThenRestarts}
 use Rattle.gb_machine.specs.LawsSvc.{QuietBeforeRemoval, RemovalLeavesNothingWired}
@@ -25,8 +24,6 @@ pub record LawsOfRuns : Type 0 where
   pub own : NoForeignMessage
   pub wired : WiredAtMostOnce
   pub credits : CreditsAddUp
-  pub kept : KeptIsTheImage
-  pub fetched : FetchedIsTheImage
   pub counts : CountsAddUp
 
 -- What holds of every state of a run, and is used to prove the laws and the system.

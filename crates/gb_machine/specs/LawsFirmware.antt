@@ -57,15 +57,20 @@ pub record IsOnTrail (s : State) (t : Trail) (n : ℕ) : Type 0 where
   pub connection : request.connection ≡ t.connection
   pub side : request.side ≡ side.Far
 
--- An image came by the last download at its CPort that was done: by its requests, whose ranges
--- follow one another from 0 to the image's size. It is the image that was given under its tag,
--- unless bytes were injected on the connection of that download.
+-- No bytes were ever injected on connection k.
+abbrev pub WasClean : ℕ → State → Type 0
+WasClean k s = IsIn k s.past.unclean → ⊥
+
+-- An image came by the requests of the last download at its CPort that was done. Where nothing was
+-- ever injected on their connection, the ranges that they ask for follow one another from 0 to the
+-- image's size, and it is the image that was given under its tag.
 pub record IsLoaded (s : State) (i c : ℕ) (image : Image) : Type 0 where
   pub trail : Trail
   pub is : find (is_trail_at i c) s.past.loaded ≡ Some trail
   pub made : Each (IsOnTrail s trail) trail.requests
-  pub ranges : Follow 0 (ranges_of trail.requests s.bus) (length image.bytes)
-  pub given : (IsIn trail.connection s.past.unclean → ⊥)
+  pub ranges : WasClean trail.connection s
+      → Follow 0 (ranges_of trail.requests s.bus) (length image.bytes)
+  pub given : WasClean trail.connection s
       → image_of image.tag s.host.images ≡ Some image.bytes
 
 -- each image that is kept came so

@@ -189,7 +189,7 @@ IsToldOf p item b (entry.Credits i c total) = p.connection.peer ≡ end.Module i
 IsToldOf p item b _ = ⊥
 
 -- An entry tells what a message brings about: a request, the end of one by a disconnection or at
--- once, an interface, a manifest or a connection.
+-- once, an interface, a manifest, a connection or the end of a download.
 abbrev pub is_consequence : Entry → Bool
 is_consequence (entry.Asked n from to kind size bytes lost) = true
 is_consequence (entry.Ended n outcome.Disconnected read) = true
@@ -197,6 +197,7 @@ is_consequence (entry.Ended n outcome.Sent read) = true
 is_consequence (entry.Interface i stage) = true
 is_consequence (entry.Manifest i at why) = true
 is_consequence (entry.Connection k ap i c state) = true
+is_consequence (entry.Download i c tag size) = true
 is_consequence _ = false
 
 -- The front item toward a place is gone after a moment: the connection is live and wired still, and

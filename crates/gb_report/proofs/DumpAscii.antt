@@ -16,7 +16,7 @@ use Rattle.gb_formats.specs.Manifest.{Manifest}
 use Rattle.gb_formats.specs.ManifestRules.{Refused}
 use Rattle.gb_formats.specs.Reasons.{reason_text}
 use Rattle.gb_formats.specs.Texts.{ended, entry_line, entry_text}
-use Rattle.gb_formats.proofs.Ascii.{IsAscii-entry_text}
+use Rattle.gb_formats.proofs.Ascii.{IsAscii-entry_text, IsWordOf}
 
 abbrev pub is_ascii : List ℕ → Bool
 is_ascii bs = list_all (λ b. nat_lt b 128) bs
@@ -42,17 +42,17 @@ left false b h = absurd cc
 front : (xs ys : List ℕ) → is_ascii (xs ++ ys) ≡ true → is_ascii xs ≡ true
 front xs ys h = left (is_ascii xs) (is_ascii ys) (sym (cat xs ys) ∙ h)
 
--- what the report has for entries that show no text
-line_is : (e : Entry) → ((text : List ℕ) → e ≡ entry.Shown text → ⊥)
+-- what the report has for entries with no text of their own
+line_is : (e : Entry) → ((text : List ℕ) → IsWordOf text e → ⊥)
     → is_ascii (entry_text 0 false e) ≡ true
 line_is e h = tested (entry_text 0 false e)
     (IsAscii-entry_text 0 false e (λ text is. absurd (h text is)))
 
 pub dec : (n : ℕ) → is_ascii (decimal n) ≡ true
-dec n = front (decimal n) (10 ∷ []) (line_is (entry.Settled n) (λ text is. cc))
+dec n = front (decimal n) (10 ∷ []) (line_is (entry.Settled n) (λ text is. is))
 
 pub byte : (b : ℕ) → is_ascii (byte_text b) ≡ true
-byte b = front (byte_text b) (10 ∷ []) (line_is (entry.Ignored b) (λ text is. cc))
+byte b = front (byte_text b) (10 ∷ []) (line_is (entry.Ignored b) (λ text is. is))
 
 right : (a b : Bool) → (a && b) ≡ true → b ≡ true
 right true b h = h
@@ -64,7 +64,7 @@ behind xs ys h = right (is_ascii xs) (is_ascii ys) (sym (cat xs ys) ∙ h)
 pub because : (why : Reason) → is_ascii (reason_text why) ≡ true
 because why =
     let whole = front (entry_line 0 false (entry.Manifest 0 0 why)) (10 ∷ [])
-    (line_is (entry.Manifest 0 0 why) (λ text is. cc)) in
+    (line_is (entry.Manifest 0 0 why) (λ text is. is)) in
     behind (decimal 0) (codes " " ++ reason_text why)
     (behind (decimal 0)
     (codes " refused " ++ (decimal 0 ++ (codes " " ++ reason_text why))) whole)

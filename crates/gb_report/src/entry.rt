@@ -2,13 +2,14 @@
 
 ghost use Rattle.std.specs.Prelude.{◌≡◌, ◌++◌, ℕ, Bool, true, List, OnOk, IsAscii};
 ghost use Rattle.std.specs.String.{string_bytes};
+ghost use Rattle.gb_formats.proofs.Ascii.{IsWordOf};
 ghost use Rattle.gb_formats.specs.Texts.{entry_line};
 ghost use Rattle.gb_base.specs.Groups.{is_device, is_link, is_message, is_raw, is_request};
 
 use crate::digits::{Digits, Hex};
 use crate::names::{lost_mark, reason_name, refusal_name, stage_name, state_name};
 use crate::part::{Part, parts};
-use crate::parts::{Dropped, Item, Size, Way};
+use crate::parts::{Downloaded, Dropped, Item, Size, Way};
 use gb_base::{Entry, OutOfMemory};
 use std::str;
 
@@ -21,7 +22,7 @@ pub fn append_entry(
 ) -> Result<(), OutOfMemory>
     ensures text { OnOk result
         (string_bytes out.new ≡ string_bytes out.old ++ entry_line line hex entry.now) }
-    ensures ascii { OnOk result ((shown : List ℕ) → entry.now ≡ Entry.Shown shown → IsAscii shown) }
+    ensures ascii { OnOk result ((word : List ℕ) → IsWordOf word entry.now → IsAscii word) }
 {
     match entry {
         Entry::Done => parts!("line ", line, " ok").append_to(out),
@@ -41,8 +42,11 @@ pub fn append_entry(
         Entry::Interface { .. } | Entry::Manifest { .. } | Entry::Connection { .. } => {
             append_link(entry, out)
         }
-        Entry::Irq { .. } | Entry::Received { .. } | Entry::Serial { .. } | Entry::Credits { .. } =>
-            { append_device(entry, out) }
+        Entry::Irq { .. }
+        | Entry::Received { .. }
+        | Entry::Serial { .. }
+        | Entry::Credits { .. }
+        | Entry::Download { .. } => append_device(entry, out),
         Entry::Settled { count } => parts!("settled ", count).append_to(out),
         Entry::Shown { text } => {
             let text = str::from_utf8(text.items()).unwrap();
@@ -213,11 +217,12 @@ fn append_link(entry: &Entry, out: &mut String) -> Result<(), OutOfMemory>
     }
 }
 
-/// Appends the line of what a bridged device told.
+/// Appends the line of what a device told.
 fn append_device(entry: &Entry, out: &mut String) -> Result<(), OutOfMemory>
     requires { is_device entry.now ≡ true }
-    ensures { (line : ℕ) (hex : Bool) → OnOk result
+    ensures text { (line : ℕ) (hex : Bool) → OnOk result
         (string_bytes out.new ≡ string_bytes out.old ++ entry_line line hex entry.now) }
+    ensures ascii { OnOk result ((word : List ℕ) → IsWordOf word entry.now → IsAscii word) }
 {
     match entry {
         Entry::Irq { intf, cport, line } => {
@@ -241,6 +246,15 @@ fn append_device(entry: &Entry, out: &mut String) -> Result<(), OutOfMemory>
         } => parts!("serial ", intf, " ", cport, " ", control).append_to(out),
         Entry::Credits { intf, cport, total } => {
             parts!("credits ", intf, " ", cport, " ", total).append_to(out)
+        }
+        Entry::Download {
+            intf,
+            cport,
+            tag,
+            size,
+        } => {
+            let how = Downloaded(*size);
+            parts!("download ", intf, " ", cport, " ", tag.text(), " ", how).append_to(out)
         }
         _ => unreachable!(),
     }

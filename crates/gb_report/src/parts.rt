@@ -143,6 +143,23 @@ impl Part for Reading {
     }
 }
 
+/// How a download ended: with so many bytes that the device keeps, or it failed.
+#[derive(Clone, Copy)]
+pub struct Downloaded(pub Option<u32>);
+
+impl Part for Downloaded {
+    ghost use Rattle.gb_formats.specs.Texts.{download_text};
+
+    ghost text = { λ d. download_text d.0 };
+
+    fn append_to(&self, line: &mut String) -> Result<(), OutOfMemory> {
+        match self.0 {
+            Some(size) => parts!("done ", size).append_to(line),
+            None => "failed".append_to(line),
+        }
+    }
+}
+
 /// Why bytes don't begin with a message.
 impl Part for WireFault {
     ghost use Rattle.gb_formats.specs.Texts.{wire_fault_text};

@@ -2,6 +2,7 @@
 
 ghost use Rattle.std.specs.Prelude.{◌≡◌, ◌++◌, ℕ, List, IsAscii, OnOk, OnErr};
 ghost use Rattle.std.specs.String.{string_bytes};
+ghost use Rattle.gb_formats.proofs.Ascii.{IsWordOf};
 ghost use Rattle.gb_formats.specs.Texts.{entries_text, entry_text, refusal_line_text};
 
 use crate::entry::append_entry;
@@ -63,7 +64,7 @@ pub fn append_all(
 fn append_one(entry: &Entry, line: u32, hex: bool, out: &mut String) -> Result<(), OutOfMemory>
     ensures text { OnOk result
         (string_bytes out.new ≡ string_bytes out.old ++ entry_text line hex entry.now) }
-    ensures ascii { OnOk result ((shown : List ℕ) → entry.now ≡ Entry.Shown shown → IsAscii shown) }
+    ensures ascii { OnOk result ((word : List ℕ) → IsWordOf word entry.now → IsAscii word) }
 {
     append_entry(entry, line, hex, out)?;
     end_line(out)

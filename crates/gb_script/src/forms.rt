@@ -8,6 +8,7 @@ ghost use Rattle.gb_script.specs.Tells.{Says};
 use crate::LineFault;
 use crate::bridges::{Protocol, request};
 use crate::deliveries::{answer, deliver, inject, settle, tick};
+use crate::firmware::{image, load};
 use crate::gpio::gpio;
 use crate::interfaces::{connect, disconnect, hold, insert, pull};
 use crate::requests::{cancel, copy, forget, send};
@@ -67,6 +68,12 @@ pub fn form(alloc: Global, first: &[u8], rest: &Rest<'_>, who: u8) -> Result<Eve
     }
     if is(first, "inject") {
         return inject(alloc, rest);
+    }
+    if is(first, "image") {
+        return image(alloc, rest);
+    }
+    if is(first, "load") {
+        return load(rest);
     }
     if is(first, "show") {
         rest.end()?;

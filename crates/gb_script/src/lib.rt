@@ -5,6 +5,7 @@ mod bridges;
 mod captures;
 mod deliveries;
 mod fault;
+mod firmware;
 mod forms;
 mod front;
 mod gpio;

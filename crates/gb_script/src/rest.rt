@@ -9,7 +9,8 @@ ghost use Rattle.gb_formats.specs.Said.{at_end};
 ghost use Rattle.gb_formats.specs.WordValues.{intf_word, cport_word, count_word, from_one_word};
 ghost use Rattle.gb_formats.specs.WordValues.{hex_word, kind_word};
 ghost use Rattle.gb_formats.specs.WordValues.{level_word, name_word, number_word};
-ghost use Rattle.gb_formats.specs.WordValues.{pin_word, type_word, u8_word, u16_word, u32_word};
+ghost use Rattle.gb_formats.specs.WordValues.{pin_word, tag_word, type_word};
+ghost use Rattle.gb_formats.specs.WordValues.{u8_word, u16_word, u32_word};
 ghost use Rattle.gb_formats.specs.Words.{words};
 ghost use Rattle.gb_script.specs.Tells.{GoesOn, GoesOnAt, IsSplit, StopsAt, StopsBy, StopsWith};
 
@@ -17,7 +18,7 @@ use crate::LineFault;
 use crate::hex_words::{hex_word, type_word};
 use crate::values::{kind_word, name_word, number_word};
 use crate::words::{first_word, is};
-use gb_base::{Bytes, Kind, LineReason, Name};
+use gb_base::{Bytes, Kind, LineReason, Name, Tag};
 use std::alloc::Global;
 use std::marker::Model;
 
@@ -270,6 +271,16 @@ impl<'a> Rest<'a> {
     {
         let (word, rest) = self.next()?;
         self.fits(kind_word(word), rest)
+    }
+
+    /// TAG: the tag of a firmware image.
+    pub fn tag(&self) -> Result<(Tag, Rest<'a>), LineReason>
+        ensures { MatchResult result
+            (λ f. GoesOn tag_word self.now f.0 f.1)
+            (λ why. StopsWith tag_word self.now why) }
+    {
+        let (word, rest) = self.next()?;
+        self.fits(Tag::from_bytes(word), rest)
     }
 
     /// TYPE: the type of a request, 00 to 7f.

@@ -76,6 +76,8 @@ pub fn kind_word(word: &[u8]) -> Option<Kind>
         Some(Kind::Bridge)
     } else if is(word, "loopback") {
         Some(Kind::Loopback)
+    } else if is(word, "firmware") {
+        Some(Kind::Firmware)
     } else {
         None
     }

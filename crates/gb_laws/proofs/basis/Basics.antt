@@ -121,7 +121,7 @@ basis-kept a (holds x is far) h =
     h.names h.drains
 basis-kept a (replies x q r is made twoway) h =
     free-basis refl (replied-fits x.connection.number
-    x.side x.item q r (held-bus a x is h) made twoway) h.names h.drains
+    x.side x.item q r (held-bus a x is h) made twoway.0) h.names h.drains
 basis-kept a (answers x n result payload is says which) h =
     let fits = held-bus a x is h in
     let f = fewer-tail (loose_of x) in

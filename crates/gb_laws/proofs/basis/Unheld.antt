@@ -18,7 +18,7 @@ unheld-kept m a (unwires k free before live) links h i =
 unheld-kept m a (acts_asked q n rest is) links h i =
     h (subst (λ (ks : List ℕ). IsIn 1 ks) (awaited-rest q.purpose n).holds i)
 unheld-kept m a (others booted marks ports modules same) links h i =
-    by (⊎_elim (λ s. s.3) (λ of. of.2) same)
+    by (⊎_elim (λ s. s.3) (λ of. of.2) same.0)
   where
     by : AreMarked a.state marks → ⊥
     by marked = ⊎_elim h (λ w. module-no-svc (sym w.5 ∙ (links.svc w.0 w.3 w.4).peer)) (marked 1 i)

@@ -4,7 +4,7 @@ use Rattle.std.proofs.Common.{subst, sym, true, ℕ, ⊎_elim, [], ◌++◌, ◌
 use Rattle.gb_base.specs.declared.end.Side.TheVariants as side
 use Rattle.gb_base.specs.declared.peers.Link.{Link}
 use Rattle.gb_base.specs.declared.steps.SequenceStep.{SequenceStep}
-use Rattle.gb_machine.specs.Host.{Host, is_link, link_at, with_link}
+use Rattle.gb_machine.specs.Host.{Host, is_link, link_at, with_given, with_link}
 use Rattle.gb_machine.specs.{Bus.Bus, Bus.next_number, Failures.unsent, HostActs.made_for}
 use Rattle.gb_machine.specs.{HostActs.with_awaited, HostServing.host_serves}
 use Rattle.gb_machine.specs.{HostServing.with_credits, LineActions.spent}
@@ -18,16 +18,17 @@ use Rattle.gb_laws.proofs.creations.CreatingFacts.{AreReady, Came, CreatesFit, c
 use Rattle.gb_laws.proofs.creations.CreatingFacts.{creates-sent}
 use Rattle.gb_laws.proofs.creations.CreatingFacts.{orderly-ready}
 use Rattle.gb_laws.proofs.links.LinkActs.{ServedHost, as_before, awaited-host, host-served}
-use Rattle.gb_laws.proofs.links.LinkActs.{with_more}
+use Rattle.gb_laws.proofs.links.LinkActs.{with_images, with_more}
 use Rattle.gb_laws.proofs.links.LinkSources.{LinksFrom, from-turn, from-unsent}
 use Rattle.gb_laws.proofs.links.Links.{ArePending, IsFree, IsMaking, SameLink, connection, control}
 use Rattle.gb_laws.proofs.points.Points.{Change, IsAskedBy, IsAsking, IsFarAsking, IsPlain}
 use Rattle.gb_laws.proofs.points.Points.{acts_asked}
 use Rattle.gb_laws.proofs.points.Points.{acts_failed, acts_left, acts_opened, acts_shut, acts_told}
 use Rattle.gb_laws.proofs.points.Points.{asking}
-use Rattle.gb_laws.proofs.points.Points.{asks, awaited_by, by_far, by_host, by_module, by_svc}
+use Rattle.gb_laws.proofs.points.Points.{asks, awaited_by, by_far, by_host, by_loader, by_module}
+use Rattle.gb_laws.proofs.points.Points.{by_svc}
 use Rattle.gb_laws.proofs.points.Points.{changed}
-use Rattle.gb_laws.proofs.points.Points.{names, opening, serves, spends, turns}
+use Rattle.gb_laws.proofs.points.Points.{gives, names, opening, serves, spends, turns}
 use Rattle.gb_laws.proofs.{points.Awaited.awaited-rest, creations.CreatingAsked.creates-asked}
 use Rattle.gb_laws.proofs.{creations.CreatingTurns.turn-orderly, links.LinkBuses.new_link}
 use Rattle.gb_laws.proofs.{links.LinkHosts.credits-link}
@@ -83,13 +84,15 @@ creates-kept m a (asks d c label free live drawn who) links r f then h = record 
     still : (w : IsAskedBy m a c d) (q : Asking) (n : ℕ) → a.asked ≡ Some (q, n)
         → awaited_by m a c d w ≡ Some (q, n)
     still (by_host p rest is draft none) q n e = absurd (none-some (sym none ∙ e))
-    still (by_far far on) q n e = e
+    still (by_far far on unloaded) q n e = e
+    still (by_loader x going far on) q n e = e
 
     new : (w : IsAskedBy m a c d) → d.connection ≡ 1 → d.side ≡ side.Ap
         → creates_one (requested d label) ≡ true
         → (q : Asking) × (awaited_by m a c d w ≡ Some (q, next_number a.state.bus))
     new (by_host p rest is draft none) one own e = (p, refl)
-    new (by_far far on) one own e = absurd (far-side m a d c far own)
+    new (by_far far on unloaded) one own e = absurd (far-side m a d c far own)
+    new (by_loader x going far on) one own e = absurd (far-side m a d c far own)
 creates-kept m a (names name d c label free live drawn host) links r f then h = record {
   fit = creates-sent d label a.state.bus a.state.host.links a.state.past.made_for a.asked
       a.asked r.below (λ q n e. e)
@@ -206,9 +209,15 @@ creates-kept m a (serves k kind payload none) links r f then h = record {
         (λ l i. (l, i, same-link l))
     by (with_more i c total e) = subst (λ (g : Host). Came a.state.host.links g.links) (sym e)
         (came-link a.state.host i c (with_credits total) (credits-link total))
+    by (with_images x e) = subst (λ (g : Host). Came a.state.host.links g.links) (sym e)
+        (λ l i. (l, i, same-link l))
 creates-kept m a (spends i c what none) links r f then h = record {
   fit = creates-came (came-link a.state.host i c (spent what) (λ l. credits-link _ l)) h.fit;
   ready = subst (AreReady (with_link i c (spent what) a.state.host) a.state.past.made_for)
       (sym none.0) tt;
+}
+creates-kept m a (gives tag bytes at none) links r f then h = record {
+  fit = h.fit;
+  ready = subst (AreReady (with_given tag bytes a.state.host) a.state.past.made_for) (sym at.0) tt;
 }
 creates-kept m a x links r f then h = record { fit = h.fit; ready = h.ready }

@@ -15,7 +15,8 @@ use Rattle.gb_machine.specs.{Members.IsIn, SvcQueues.is_for_link, SvcQueues.spea
 use Rattle.gb_machine.specs.{Turns.Asking}
 use Rattle.gb_invariants.proofs.{Awaiting.none-some, Awaiting.same-some, BusChanges.KeepsRequests}
 use Rattle.gb_invariants.proofs.{Found.in-first, Outcomes.same-number}
-use Rattle.gb_laws.proofs.links.LinkActs.{ServedHost, as_before, host-served, with_more}
+use Rattle.gb_laws.proofs.links.LinkActs.{ServedHost, as_before, host-served, with_images}
+use Rattle.gb_laws.proofs.links.LinkActs.{with_more}
 use Rattle.gb_laws.proofs.links.LinkSources.{LinksFrom}
 
 -- request n was made by the application processor to the supervisory controller, for a reply
@@ -137,6 +138,7 @@ come-served k kind payload h = by (host-served k kind payload)
     by (as_before e) = subst (ComeFrom h) (sym e) (come-same h)
     by (with_more i c total e) = subst (ComeFrom h) (sym e)
         (come-link h i c (with_credits total) (λ l. refl) (λ l. refl) (λ l. refl))
+    by (with_images x e) = subst (ComeFrom h) (sym e) (come-same h)
 
 -- ---- a sequence waits
 

@@ -4,7 +4,8 @@ use Rattle.std.proofs.Common.{true, ℕ, ⊎_elim, ◌∙◌, ◌≡◌}
 use Rattle.gb_base.specs.declared.peers.Link.{Link}
 use Rattle.gb_machine.specs.HostActs.{host_draft, made_for, with_awaited}
 use Rattle.gb_machine.specs.Sending.{Draft, requested, sent}
-use Rattle.gb_machine.specs.{Bus.next_number, Failures.unsent, Host.link_at, Host.with_link}
+use Rattle.gb_machine.specs.{Bus.next_number, Failures.unsent, Host.link_at, Host.with_given}
+use Rattle.gb_machine.specs.{Host.with_link}
 use Rattle.gb_machine.specs.{HostServing.host_serves, LineActions.spent}
 use Rattle.gb_machine.specs.{Runs.Moment, SequenceSteps.is_for_connection, Turns.Asking}
 use Rattle.gb_machine.specs.{Waits.awaits, Wiring.next_connection}
@@ -15,8 +16,9 @@ use Rattle.gb_laws.proofs.creations.Pairs.{IsAskedAs, PairsFit, asked-more, come
 use Rattle.gb_laws.proofs.creations.Pairs.{come-same}
 use Rattle.gb_laws.proofs.creations.Pairs.{come-served, pairs-on}
 use Rattle.gb_laws.proofs.points.Points.{Change, IsAskedBy, acts_asked, acts_failed, acts_opened}
-use Rattle.gb_laws.proofs.points.Points.{asks}
-use Rattle.gb_laws.proofs.points.Points.{awaited_by, by_far, by_host, changed, names, serves}
+use Rattle.gb_laws.proofs.points.Points.{asks, gives}
+use Rattle.gb_laws.proofs.points.Points.{awaited_by, by_far, by_host, by_loader, changed, names}
+use Rattle.gb_laws.proofs.points.Points.{serves}
 use Rattle.gb_laws.proofs.points.Points.{spends}
 use Rattle.gb_laws.proofs.points.Points.{turns}
 use Rattle.gb_laws.proofs.{points.Awaited.awaited-rest, points.ChangeBuses.keeps-requests}
@@ -40,11 +42,15 @@ pairs-kept m a (asks d c label free live drawn who) links r f =
     a.asked (awaited_by m a c d who) (keeps-requests m a (asks d c label free live drawn who))
     (omega arith) (come-same a.state.host) (by who) f
   where
+    still : (q : Asking) (n : ℕ) → a.asked ≡ Some (q, n)
+        → IsAskedAs q n (sent d label a.state.bus) a.state.past.made_for
+    still q n e = asked-more q n a.state.bus (sent d label a.state.bus) a.state.past.made_for
+        (keeps-requests m a (asks d c label free live drawn who)) (f.asks q n e)
+
     by : (w : IsAskedBy m a c d) (q : Asking) (n : ℕ) → awaited_by m a c d w ≡ Some (q, n)
         → IsAskedAs q n (sent d label a.state.bus) a.state.past.made_for
-    by (by_far far on) q n e = asked-more q n a.state.bus (sent d label a.state.bus)
-        a.state.past.made_for (keeps-requests m a (asks d c label free live drawn who))
-        (f.asks q n e)
+    by (by_far far on unloaded) q n e = still q n e
+    by (by_loader x going far on) q n e = still q n e
     by (by_host p rest is draft none) q n e =
         subst (λ (w : Asking × ℕ). IsAskedAs w.0 w.1 (sent d label a.state.bus)
         a.state.past.made_for) (same-some (p, next_number a.state.bus) (q, n) e)
@@ -123,6 +129,10 @@ pairs-kept m a (spends i c what none) links r f =
     pairs-on a.state.bus a.state.bus a.state.host (with_link i c (spent what) a.state.host)
     a.state.past.made_for a.asked a.asked (λ n x made. made) (omega arith)
     (come-link a.state.host i c (spent what) (λ l. refl) (λ l. refl) (λ l. refl)) f.asks f
+pairs-kept m a (gives tag bytes at none) links r f =
+    pairs-on a.state.bus a.state.bus a.state.host (with_given tag bytes a.state.host)
+    a.state.past.made_for a.asked a.asked (λ n x made. made) (omega arith)
+    (come-same a.state.host) f.asks f
 pairs-kept m a x links r f =
     pairs-on a.state.bus (changed m a x).state.bus a.state.host a.state.host
     a.state.past.made_for a.asked a.asked (keeps-requests m a x) (omega arith)

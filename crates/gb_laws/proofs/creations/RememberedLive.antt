@@ -28,7 +28,8 @@ use Rattle.gb_laws.proofs.links.Links.{ArePending, HostFits, IsFollowed, leaves,
 use Rattle.gb_laws.proofs.points.PointParts.{Basis, IsCaused, Point}
 use Rattle.gb_laws.proofs.points.Points.{Change, IsAskedBy, IsOver, Law, acts_asked, acts_opened}
 use Rattle.gb_laws.proofs.points.Points.{asks}
-use Rattle.gb_laws.proofs.points.Points.{awaited_by, by_far, by_host, changed, names, turns}
+use Rattle.gb_laws.proofs.points.Points.{awaited_by, by_far, by_host, by_loader, changed, names}
+use Rattle.gb_laws.proofs.points.Points.{turns}
 use Rattle.gb_laws.proofs.creations.Remembering.{RemembersAt, RemembersTo, remembers-first}
 use Rattle.gb_laws.proofs.creations.Remembering.{remembers-kept}
 use Rattle.gb_laws.proofs.creations.Remembering.{remembers-over}
@@ -129,7 +130,8 @@ since-kept m absent a (asks d c label free live drawn who) basis links r h =
     by (by_host p rest is draft none) q n e =
         inr (sym (ap (λ (w : Asking × ℕ). w.1)
         (same-some (p, length a.state.bus.requests + 1) (q, n) e)))
-    by (by_far far on) q n e = inl e
+    by (by_far far on unloaded) q n e = inl e
+    by (by_loader x going far on) q n e = inl e
 since-kept m absent a (names name d c label free live drawn host) basis links r h =
     since-sent m a (requested d label) refl refl refl (λ q n e. inl e) h
 since-kept m absent a (turns e free untouched none cause) basis links r h = record {

@@ -14,7 +14,7 @@ use Rattle.gb_invariants.proofs.Lists.{each-from, in-front, in-pushed}
 use Rattle.gb_invariants.proofs.Awaiting.{none-some, same-some}
 use Rattle.gb_laws.proofs.basis.Basics.{Based, basis, basis-first, basis-throughout, rested}
 use Rattle.gb_laws.proofs.points.Points.{Change, IsAskedBy, Law, acts_asked, asks, awaited_by}
-use Rattle.gb_laws.proofs.points.Points.{by_far}
+use Rattle.gb_laws.proofs.points.Points.{by_far, by_loader}
 use Rattle.gb_laws.proofs.points.Points.{by_host, changed, names, upon, wires}
 use Rattle.gb_laws.proofs.runs.Runs.{HoldsAtMoments, HoldsByMoments, Keeps, at_each, throughout}
 use Rattle.gb_laws.proofs.runs.Runs.{weaker}
@@ -132,7 +132,9 @@ remembers-kept m a (asks d c label free live drawn who) h =
         → Remembers (length a.state.bus.requests + 1) a.state.past.made_for (awaited_by m a c d w)
     by (by_host q rest is draft none) =
         remembers-asked a.asked q h
-    by (by_far far on) =
+    by (by_far far on unloaded) =
+        remembers-more h
+    by (by_loader x going far on) =
         remembers-more h
 remembers-kept m a (names name d c label free live drawn host) h =
     remembers-sent a.state.bus.requests (requested d label) (remembers-more h)

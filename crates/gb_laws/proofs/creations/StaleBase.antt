@@ -95,7 +95,7 @@ noticed-kept m i a (acts_asked q n rest is) f h =
     (keeps-requests m a (acts_asked q n rest is))
     (ap (λ (b : Bus). b.requests) (awaited-rest q.purpose n).bus) (awaited-rest q.purpose n).ports h
 noticed-kept m i a (others booted marks ports modules same) f h = λ e n.
-    (⊎_elim (λ s. still e n s.1) (λ of. absurd (other n of.0)) same ∙ (h e n).0, (h e n).1)
+    (⊎_elim (λ s. still e n s.1) (λ of. absurd (other n of.0)) same.0 ∙ (h e n).0, (h e n).1)
   where
     other : {e : HostEvent} → IsNoticed m e → IsOfSvc m.event → ⊥
     other n of = subst IsOfSvc n.event of

@@ -10,7 +10,7 @@ use Rattle.gb_machine.specs.Sending.{Draft, requested, sent}
 use Rattle.gb_machine.specs.SequenceSteps.{asks_control, is_for_connection, kind_of}
 use Rattle.gb_machine.specs.{Bus.next_number, Bus.request_of, HostActs.host_draft}
 use Rattle.gb_machine.specs.{HostActs.made_for, Members.IsIn, Ports.level_of, Runs.Moment}
-use Rattle.gb_machine.specs.{State.Past, State.State, SvcQueues.is_enumeration_request, Turns.Act}
+use Rattle.gb_machine.specs.{State.State, SvcQueues.is_enumeration_request, Turns.Act}
 use Rattle.gb_machine.specs.{Turns.Asking, Waits.awaits}
 use Rattle.gb_invariants.proofs.Lists.{found-in, in-pushed}
 use Rattle.gb_invariants.proofs.{Awaiting.sent-request}
@@ -105,11 +105,11 @@ module _ (m : Moment) (i : ℕ) where
   -- some other request is made
   pub cool-sent : (a : Point) {b : Point} (d : Draft) (label : ℕ) → StaleBase m a
       → b.state.bus ≡ sent d label a.state.bus → b.state.host ≡ a.state.host
-      → b.state.past ≡ a.state.past → b.state.ports ≡ a.state.ports
+      → b.state.past.made_for ≡ a.state.past.made_for → b.state.ports ≡ a.state.ports
       → b.asked ≡ a.asked → b.pending ≡ a.pending → (d.connection ≡ 1 → d.side ≡ side.Ap
       → is_enumeration_request i (requested d label) ≡ true → d.kind ≡ 0x21)
       → IsCool i a → IsCool i b
-  cool-sent a {b} d label f bus host past ports asked pending other h =
+  cool-sent a {b} d label f bus host pairs ports asked pending other h =
       cool-still i a back (ap (level_of i) ports)
       (λ n s all. subst (λ x. AreStarts (enums i x)) (sym bus)
       (starts-sent i a d label f.basis f.there (far-sent d label f.basis f.there)
@@ -122,7 +122,7 @@ module _ (m : Moment) (i : ℕ) where
           (subst (FarMoves a.state.bus) (sym bus) (far-sent d label f.basis f.there))
           f.remembers f.pairs
           (λ k r made. ap (request_of k) bus ∙ sent-request d label a.state.bus k r made)
-          (λ k j u. subst (λ (p : Past). IsIn (n, k) p.made_for) past j)
+          (λ k j u. subst (λ (ps : List (ℕ × ℕ)). IsIn (n, k) ps) pairs j)
           (subst (λ (g : Host). Stay a.state.host.links g.links) (sym host)
           (stay-same a.state.host.links))
 

@@ -5,12 +5,13 @@ use Rattle.gb_base.specs.declared.end.Side.TheVariants as side
 use Rattle.gb_machine.specs.Sending.{Draft, requested, sent}
 use Rattle.gb_machine.specs.{Ports.level_of, Refusals.is_reserved, Runs.Moment}
 use Rattle.gb_machine.specs.{SvcQueues.is_enumeration_request}
-use Rattle.gb_invariants.proofs.{Awaiting.not-both, Selves.ap-no-far}
+use Rattle.gb_invariants.proofs.{Awaiting.not-both}
+use Rattle.gb_laws.proofs.creations.CreatingKept.{far-side}
 use Rattle.gb_laws.proofs.points.ChangeHosts.{asks-kept, stay-kept, waits-kept}
 use Rattle.gb_laws.proofs.marks.Marks.{MarksFit}
-use Rattle.gb_laws.proofs.points.Points.{Change, IsAskedBy, IsElse, IsFarAsking, IsPlain}
+use Rattle.gb_laws.proofs.points.Points.{Change, IsAskedBy, IsElse, IsPlain}
 use Rattle.gb_laws.proofs.points.Points.{acts_asked, asks}
-use Rattle.gb_laws.proofs.points.Points.{by_far, by_host, by_module, by_svc, changed, names, others}
+use Rattle.gb_laws.proofs.points.Points.{by_far, by_host, by_loader, changed, names, others}
 use Rattle.gb_laws.proofs.points.Points.{turns}
 use Rattle.gb_laws.proofs.creations.Stale.{IsCool, StaleAt, cool-still, due-still}
 use Rattle.gb_laws.proofs.creations.StaleKept.{cool-asked, cool-awaited, cool-on, cool-sent}
@@ -36,13 +37,12 @@ module _ (m : Moment) (absent : InsertsAbsent m) (i : ℕ)
           (changed m a (asks d c label free live is (by_host q rest pending draft none))) q rest
           label f pending none
           (ap (λ (x : Draft). record a.state { bus = sent x label a.state.bus }) draft) refl h
-      by (by_far far on) =
+      by (by_far far on unloaded) =
           cool-sent m i a d label f refl refl refl refl
-          refl refl (λ one own e. absurd (ap-no-far (sym own ∙ far-side far))) h
-        where
-          far-side : IsFarAsking m c d → d.side ≡ side.Far
-          far-side (by_module j p peer side) = side
-          far-side (by_svc of side) = side
+          refl refl (λ one own e. absurd (far-side m a d c far own)) h
+      by (by_loader x going far on) =
+          cool-sent m i a d label f refl refl refl refl
+          refl refl (λ one own e. absurd (far-side m a d c far own)) h
   cool-kept a (names name d c label free live is host) f noticed h =
       cool-sent m i a d label f refl refl refl refl refl refl
       (λ one own e. absurd (plain host.1 one e)) h
@@ -60,7 +60,7 @@ module _ (m : Moment) (absent : InsertsAbsent m) (i : ℕ)
       noticed none untouched.1 cause refl refl refl h
   cool-kept a (acts_asked q n rest is) f noticed h =
       cool-awaited m i a q n rest is f h
-  cool-kept a (others booted marks ports modules same) f noticed h = by same
+  cool-kept a (others booted marks ports modules same) f noticed h = by same.0
     where
       still : (n : ℕ) → StaleAt i n (changed m a (others booted marks ports modules same))
           → StaleAt i n a

@@ -27,7 +27,7 @@ use Rattle.gb_invariants.proofs.{Lists.found-in, Outcomes.is-same, Outcomes.same
 use Rattle.gb_invariants.proofs.{Selves.ap-no-far}
 use Rattle.gb_laws.proofs.credits.CreditsLines.{Moved, in-linked, old, other-number}
 use Rattle.gb_laws.proofs.credits.CreditsMoved.{back-far, back-untold, count-read, if-zero}
-use Rattle.gb_laws.proofs.credits.CreditsMoved.{plain-host}
+use Rattle.gb_laws.proofs.credits.CreditsMoved.{plain-links}
 use Rattle.gb_laws.proofs.credits.CreditsMoved.{popped-request, sent-other, stayed}
 use Rattle.gb_laws.proofs.credits.CreditsServed.{DoesAs, HandlesAs, IsPlainly, UartServed}
 use Rattle.gb_laws.proofs.credits.CreditsServed.{comes_back}
@@ -135,9 +135,10 @@ module _ (m : Moment) (one : IsMoment m.event) (start : LinkedTo m.told m.before
         → (l : Link) → IsIn l (after m).host.links → Moved m l
     moved-svc none = stayed m one start (record {
       line = no-line;
-      served = λ k kind payload x. ap (λ o. (served_on o kind payload m.before.host).host)
+      served = λ k kind payload x. ap (λ o. (served_on o kind payload m.before.host).host.links)
           (ap (λ n. link_of n m.before.host) (sym (same-number-at x)) ∙ none)
-          ∙ svc-host m.before.host (read_svc_ask_of_svc kind payload);
+          ∙ ap (λ (g : Host). g.links)
+          (svc-host m.before.host (read_svc_ask_of_svc kind payload));
     }) (λ l i q. (
       sent-other l.connection m m.event no-line,
       elsewhere l.connection (by l i (p.connection.number == l.connection) refl),
@@ -153,9 +154,9 @@ module _ (m : Moment) (one : IsMoment m.event) (start : LinkedTo m.told m.before
         → (k.protocol == 0x04) ≡ false → (l : Link) → IsIn l (after m).host.links → Moved m l
     moved-plain k at_k other = stayed m one start (record {
       line = no-line;
-      served = λ n kind payload x. ap (λ o. (served_on o kind payload m.before.host).host)
+      served = λ n kind payload x. ap (λ o. (served_on o kind payload m.before.host).host.links)
           (ap (λ j. link_of j m.before.host) (sym (same-number-at x)) ∙ at_k)
-          ∙ plain-host k kind payload m.before.host other;
+          ∙ plain-links k kind payload m.before.host other;
     }) (λ l i q. (
       sent-other l.connection m m.event no-line,
       elsewhere l.connection (by l i q (p.connection.number == l.connection) refl),

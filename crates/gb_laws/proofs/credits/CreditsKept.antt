@@ -14,7 +14,7 @@ use Rattle.gb_laws.proofs.links.LinkSources.{from-unsent}
 use Rattle.gb_laws.proofs.links.LinkSources.{from-waiting}
 use Rattle.gb_laws.proofs.points.Points.{Change, IsBridge, Law, acts_asked, acts_failed}
 use Rattle.gb_laws.proofs.points.Points.{acts_opened}
-use Rattle.gb_laws.proofs.points.Points.{changed, serves, spends, turns, upon}
+use Rattle.gb_laws.proofs.points.Points.{changed, gives, serves, spends, turns, upon}
 use Rattle.gb_laws.proofs.{points.Awaited.awaited-rest, basis.Basics.basis}
 use Rattle.gb_laws.proofs.{links.LinkActs.awaited-host}
 use Rattle.gb_laws.proofs.{links.LinkBuses.new_link, links.LinkHosts.then-same}
@@ -68,7 +68,7 @@ credits-opened m b w {h} f = record {
 pub record IsCreditless (m : Moment) : Type 0 where
   pub line : IsBridge m.event → ⊥
   pub served : (k kind : ℕ) (payload : List ℕ) → IsServed m k kind payload
-      → (host_serves k kind payload m.before.host).host ≡ m.before.host
+      → (host_serves k kind payload m.before.host).host.links ≡ m.before.host.links
 
 pub credits-kept : (m : Moment) → IsCreditless m → (a : Point) (x : Change m a)
     → CreditsAt m a.state.bus.made a.state.host
@@ -84,13 +84,15 @@ credits-kept m less a (acts_asked q n rest is) h =
     (credits-from m (from-waiting (Some (n, q.purpose.step)) q.purpose a.state.host) h))
 credits-kept m less a (acts_failed q rest is quiet) h =
     credits-from m (from-unsent q.purpose a.state.host) h
-credits-kept m less a (serves k kind payload none) h =
-    subst (λ g. CreditsAt m a.state.bus.made g)
-    (sym (ap (λ g. (host_serves k kind payload g).host) none.2 ∙ less.served k kind payload none.1))
-    (record { links = (credits-start m).links; made = h.made })
+credits-kept m less a (serves k kind payload none) h = record {
+  links = λ l i. (credits-start m).links l (subst (λ ls. IsIn l ls)
+      (ap (λ g. (host_serves k kind payload g).host.links) none.2
+      ∙ less.served k kind payload none.1) i);
+  made = h.made;
+}
 credits-kept m less a (spends i c what none) h = absurd (less.line none.1)
-credits-kept m less a _ h =
-    h
+credits-kept m less a (gives tag bytes at none) h = record { links = h.links; made = h.made }
+credits-kept m less a _ h = h
 
 abbrev pub credits_law : (m : Moment) → IsCreditless m → Law m
 credits_law m less = upon (basis m) (λ a. CreditsAt m a.state.bus.made a.state.host)

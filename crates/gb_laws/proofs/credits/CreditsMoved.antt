@@ -17,7 +17,7 @@ use Rattle.gb_formats.specs.{GpioRecords.read_gpio_ask_of_module}
 use Rattle.gb_machine.proofs.Opened.{machine_opened}
 use Rattle.gb_machine.specs.Bus.{Ask, Bus, Item, Raw, RawReply, Reply, place_of}
 use Rattle.gb_machine.specs.HostServing.{HostServed, host_refuses, interrupted, served_on}
-use Rattle.gb_machine.specs.HostServing.{serves_gpio, serves_uart}
+use Rattle.gb_machine.specs.HostServing.{serves_firmware, serves_gpio, serves_uart}
 use Rattle.gb_machine.specs.LawsCredits.{bytes_sent, count_in, count_on, credits_back, is_credits}
 use Rattle.gb_machine.specs.LawsCredits.{is_numbered}
 use Rattle.gb_machine.specs.Runs.{IsMoment, Moment, after, told_at}
@@ -83,19 +83,26 @@ sent-refused k m _ why refused = refl
 
 -- ---- what is served elsewhere
 
--- on a connection of another protocol the application processor stays as it is
-pub plain-host : (l : Link) (kind : ℕ) (payload : List ℕ) (h : Host) → (l.protocol == 0x04) ≡ false
-    → (served_on (Some l) kind payload h).host ≡ h
-plain-host l kind payload h other =
-    if-host (l.protocol == 0x02) (serves_gpio l kind payload h) _
+-- on a connection of another protocol the application processor's connections stay as they are
+pub plain-links : (l : Link) (kind : ℕ) (payload : List ℕ) (h : Host)
+    → (l.protocol == 0x04) ≡ false → (served_on (Some l) kind payload h).host.links ≡ h.links
+plain-links l kind payload h other =
+    if-links (l.protocol == 0x02) (serves_gpio l kind payload h) _
     (gpio (read_gpio_ask_of_module kind payload))
-    (ap (λ t. (cond t (serves_uart l kind payload h) (host_refuses protocol_bad h)).host) other)
+    (ap (λ t. (cond t (serves_uart l kind payload h) rest).host.links) other
+    ∙ if-links (l.protocol == 0x17) (serves_firmware l kind payload h)
+    (host_refuses protocol_bad h) refl refl)
   where
-    if-host : (t : Bool) (x y : HostServed) → x.host ≡ h → y.host ≡ h → (cond t x y).host ≡ h
-    if-host true x y e f = e
-    if-host false x y e f = f
+    rest : HostServed
+    rest = cond (l.protocol == 0x17) (serves_firmware l kind payload h)
+        (host_refuses protocol_bad h)
 
-    gpio : (r : Result GpioAsk PayloadFault) → (interrupted l r h).host ≡ h
+    if-links : (t : Bool) (x y : HostServed) → x.host.links ≡ h.links → y.host.links ≡ h.links
+        → (cond t x y).host.links ≡ h.links
+    if-links true x y e f = e
+    if-links false x y e f = f
+
+    gpio : (r : Result GpioAsk PayloadFault) → (interrupted l r h).host.links ≡ h.links
     gpio (Err fault) = refl
     gpio (Ok (GpioAsk.IrqEvent which)) = refl
     gpio (Ok _) = refl

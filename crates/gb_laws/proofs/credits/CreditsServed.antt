@@ -21,7 +21,8 @@ use Rattle.gb_machine.specs.Arriving.{takes}
 use Rattle.gb_machine.specs.Bus.{Ask, Connection, Item, Raw, RawReply, Reply, Request, request_of}
 use Rattle.gb_machine.specs.Host.{Host, link_of, with_link}
 use Rattle.gb_machine.specs.HostServing.{HostServed, credited, host_refuses, host_serves, served_on}
-use Rattle.gb_machine.specs.HostServing.{serves_gpio, serves_uart, uart_notified_by, with_credits}
+use Rattle.gb_machine.specs.HostServing.{serves_firmware, serves_gpio, serves_uart}
+use Rattle.gb_machine.specs.HostServing.{uart_notified_by, with_credits}
 use Rattle.gb_machine.specs.Incoming.{Incoming, incoming, incoming_raw, is_request, raw_request}
 use Rattle.gb_machine.specs.Incoming.{request_in}
 use Rattle.gb_machine.specs.Responding.{host_served, replies, responds, serves_oneway}
@@ -84,7 +85,8 @@ uart-serves : (k kind : ℕ) (payload : List ℕ) (h : Host) (l : Link) → link
 uart-serves k kind payload h l found protocol =
     ap (λ o. served_on o kind payload h) found
     ∙ ap (λ p. cond (p == 0x02) (serves_gpio l kind payload h)
-    (cond (p == 0x04) (serves_uart l kind payload h) (host_refuses protocol_bad h))) protocol
+    (cond (p == 0x04) (serves_uart l kind payload h)
+    (cond (p == 0x17) (serves_firmware l kind payload h) (host_refuses protocol_bad h)))) protocol
 
 pub uart-served : (k kind : ℕ) (payload : List ℕ) {h : Host} (l : Link) → link_of k h ≡ Some l
     → l.protocol ≡ 0x04

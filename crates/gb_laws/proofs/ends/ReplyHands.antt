@@ -23,7 +23,8 @@ use Rattle.gb_invariants.specs.Facts.{Loose, times_in}
 use Rattle.gb_laws.proofs.points.PointParts.{AreQuiet, Basis, Hand, Point, asked_told, is_quiet}
 use Rattle.gb_laws.proofs.points.PointParts.{loose}
 use Rattle.gb_laws.proofs.points.PointParts.{loose_hand, loose_held, sent_told}
-use Rattle.gb_laws.proofs.{basis.BasisParts.loose_of, points.Points.changed, points.Points.replies}
+use Rattle.gb_laws.proofs.points.Points.{AnswersAs, changed, replies}
+use Rattle.gb_laws.proofs.{basis.BasisParts.loose_of}
 
 -- ---- what is asked, and what was replied
 
@@ -207,7 +208,7 @@ asked-in-hand a x n is =
 
 pub once-replied : (m : Moment) (a : Point) (x : Hand) (q : Incoming) (r : Answer)
     (is : a.hand ≡ Some x) (made : request_in x.item a.state.bus ≡ Some q)
-    (twoway : q.oneway ≡ false) → RepliesOnce a
+    (twoway : (q.oneway ≡ false) × AnswersAs m a x q r) → RepliesOnce a
     → RepliesOnce (changed m a (replies x q r is made twoway))
 once-replied m a x q r is made twoway h = record {
   once = λ n.

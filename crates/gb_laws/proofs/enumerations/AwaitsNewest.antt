@@ -16,6 +16,7 @@ use Rattle.gb_invariants.proofs.Awaiting.{none-some, not-both, same-some, sent-m
 use Rattle.gb_laws.proofs.links.LinkRuns.{LinkedTo, linked-over, linked-throughout, start-absent}
 use Rattle.gb_laws.proofs.links.Links.{ArePending, IsDue, IsDueBy, IsFormed}
 use Rattle.gb_laws.proofs.points.Points.{Change, IsAskedBy, IsPlain, Law, acts_asked, asks, by_far}
+use Rattle.gb_laws.proofs.points.Points.{by_loader}
 use Rattle.gb_laws.proofs.points.Points.{by_host, changed, names, turns, upon}
 use Rattle.gb_laws.proofs.runs.Runs.{HoldsByMoments, Keeps, throughout, weaker}
 use Rattle.gb_laws.proofs.{enumerations.AskedWaits.WaitsFewer, enumerations.AskedWaits.same-waits}
@@ -134,7 +135,10 @@ pub newest-kept : (m : Moment) (a : Point) (x : Change m a) → LinkedAt a → W
 newest-kept m a (asks d c label free live drawn who) links h = by who
   where
     by : (w : IsAskedBy m a c d) → WaitsNewest (changed m a (asks d c label free live drawn w))
-    by (by_far far on) =
+    by (by_far far on unloaded) =
+        newest-still (sent-none d label a.state.bus (λ i of. far-side m a d c far of.side))
+        (same-waits a.state.host) refl h
+    by (by_loader x going far on) =
         newest-still (sent-none d label a.state.bus (λ i of. far-side m a d c far of.side))
         (same-waits a.state.host) refl h
     by (by_host q rest is draft none) =

@@ -19,7 +19,7 @@ use Rattle.gb_laws.proofs.enumerations.AskedWaits.{WaitsFewer, is_power_step, sa
 use Rattle.gb_laws.proofs.links.LinkRuns.{LinkedTo, linked-over, linked-throughout, start-absent}
 use Rattle.gb_laws.proofs.links.Links.{ArePending, IsDue, IsDueBy, IsFormed}
 use Rattle.gb_laws.proofs.points.Points.{Change, IsAskedBy, Law, acts_asked, asks, awaited_by}
-use Rattle.gb_laws.proofs.points.Points.{by_far}
+use Rattle.gb_laws.proofs.points.Points.{by_far, by_loader}
 use Rattle.gb_laws.proofs.points.Points.{by_host, changed, turns, upon}
 use Rattle.gb_laws.proofs.runs.Runs.{HoldsByMoments, Keeps, throughout, weaker}
 use Rattle.gb_laws.proofs.{enumerations.Asked.turn-waits, points.ChangeBuses.keeps-requests}
@@ -116,7 +116,9 @@ own-kept m a (asks d c label free live drawn who) links h =
     by : (w : IsAskedBy m a c d) (q : Asking) (n : ℕ) → awaited_by m a c d w ≡ Some (q, n)
         → is_enumeration q.purpose.step ≡ true
         → IsOwnWait q.purpose.intf n q.purpose.step (sent d label a.state.bus)
-    by (by_far far on) q n e s =
+    by (by_far far on unloaded) q n e s =
+        wait-more (keeps-requests m a (asks d c label free live drawn who)) (h.asked q n e s)
+    by (by_loader x going far on) q n e s =
         wait-more (keeps-requests m a (asks d c label free live drawn who)) (h.asked q n e s)
     by (by_host p rest pending draft none) q n e s =
         let is = same-some (p, next_number a.state.bus) (q, n) e in

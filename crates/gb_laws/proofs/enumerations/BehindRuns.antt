@@ -22,6 +22,7 @@ use Rattle.gb_laws.proofs.enumerations.EnumSettledRuns.{settled_law}
 use Rattle.gb_laws.proofs.links.Links.{ArePending, IsDue, IsDueBy, IsFormed}
 use Rattle.gb_laws.proofs.points.PointParts.{Basis, Point, Wires, resting}
 use Rattle.gb_laws.proofs.points.Points.{Change, IsAskedBy, IsPlain, Law, acts_asked, asks, by_far}
+use Rattle.gb_laws.proofs.points.Points.{by_loader}
 use Rattle.gb_laws.proofs.points.Points.{by_host, changed, names, upon}
 use Rattle.gb_laws.proofs.removals.QuietRuns.{quiet-start}
 use Rattle.gb_laws.proofs.runs.Runs.{HoldsByMoments, throughout, weaker}
@@ -108,7 +109,8 @@ behind-kept m i a (asks d c label free live is who) basis links there settled do
   where
     by : IsAskedBy m a c d → d.connection ≡ 1 → d.side ≡ side.Ap
         → is_connection_request i (requested d label) ≡ true → HasNoEnumeration i a.state.bus
-    by (by_far far on) one own e = absurd (far-side m a d c far own)
+    by (by_far far on unloaded) one own e = absurd (far-side m a d c far own)
+    by (by_loader x going far on) one own e = absurd (far-side m a d c far own)
     by (by_host q rest pending draft none) one own e =
         host-apart a q rest label i links settled done pending
         (ap (λ (x : Draft). x.connection) (sym draft) ∙ one)

@@ -11,7 +11,8 @@ use Rattle.gb_base.specs.declared.entry.IntfStage.TheVariants as stage
 use Rattle.gb_base.specs.declared.event.Event.TheVariants as event
 use Rattle.gb_base.specs.declared.refusal.Refusal.TheVariants as why
 use Rattle.gb_machine.proofs.Conditions.{AreUnmet, free, front-unmet}
-use Rattle.gb_machine.specs.Host.{Host, control_of, interface_of, is_intf, is_link, with_link}
+use Rattle.gb_machine.specs.Host.{Host, control_of, interface_of, is_intf, is_link, with_given}
+use Rattle.gb_machine.specs.Host.{with_link}
 use Rattle.gb_machine.specs.HostRefusals.{connect_conditions, disconnect_conditions, is_enumerating}
 use Rattle.gb_machine.specs.HostRefusals.{is_failed_stage}
 use Rattle.gb_machine.specs.Turns.{Act, Asking}
@@ -29,13 +30,13 @@ use Rattle.gb_laws.proofs.enumerations.Asked.{asked-why, change-asks, same-kind}
 use Rattle.gb_laws.proofs.enumerations.AskedWaits.{AsksIn, asks-behind, asks_in, no-asks, opens_in}
 use Rattle.gb_laws.proofs.enumerations.DoneStays.{KeepsDone, NoneRemoved, keeps-same, keeps-waiting}
 use Rattle.gb_laws.proofs.links.LinkActs.{ServedHost, as_before, awaited-host, host-served}
-use Rattle.gb_laws.proofs.links.LinkActs.{with_more}
+use Rattle.gb_laws.proofs.links.LinkActs.{with_images, with_more}
 use Rattle.gb_laws.proofs.links.LinkEnds.{WaitsFor, connecting, enumerating, waits-for}
 use Rattle.gb_laws.proofs.links.LinkSources.{from-turn, from-unsent, from-waiting}
 use Rattle.gb_laws.proofs.links.Links.{ArePending, IsFree, IsMaking, connection, control}
 use Rattle.gb_laws.proofs.points.Points.{Change, IsAsking, acts_asked, acts_failed, acts_opened}
 use Rattle.gb_laws.proofs.points.Points.{asking}
-use Rattle.gb_laws.proofs.points.Points.{changed, opening, serves, spends, turns}
+use Rattle.gb_laws.proofs.points.Points.{changed, gives, opening, serves, spends, turns}
 use Rattle.gb_laws.proofs.{points.ChangeHosts.asks-kept, creations.CreatingFacts.Came}
 use Rattle.gb_laws.proofs.{creations.CreatingKept.came-from}
 use Rattle.gb_laws.proofs.{creations.CreatingKept.came-link, enumerations.DoneTurns.keeps-unsent}
@@ -278,9 +279,16 @@ links-kept m absent i a (serves k kind payload none) links settled h =
         (keeps-same i a.state.host _ (ap (λ (g : Host). g.interfaces) e))
         (subst (λ (g : Host). Came a.state.host.links g.links) (sym e)
         (came-link a.state.host j c (with_credits total) (credits-link total))) (λ q j. j) h
+    by (with_images x e) = links-still
+        (keeps-same i a.state.host _ (ap (λ (g : Host). g.interfaces) e))
+        (subst (λ (g : Host). Came a.state.host.links g.links) (sym e)
+        (came-same a.state.host.links)) (λ q j. j) h
 links-kept m absent i a (spends j c what none) links settled h =
     links-still (keeps-same i a.state.host (with_link j c (spent what) a.state.host) refl)
     (came-link a.state.host j c (spent what) (λ l. credits-link _ l)) (λ q j. j) h
+links-kept m absent i a (gives tag bytes at none) links settled h =
+    links-still (keeps-same i a.state.host (with_given tag bytes a.state.host) refl)
+    (came-same a.state.host.links) (λ q j. j) h
 links-kept m absent i a x links settled h =
     links-still (keeps-same i a.state.host a.state.host refl) (came-same a.state.host.links)
     (asks-kept m a x tt) h

@@ -20,10 +20,10 @@ use Rattle.gb_laws.proofs.enumerations.EnumSettled.{IsSettled, May, settled-aske
 use Rattle.gb_laws.proofs.enumerations.EnumSettled.{settled-turned}
 use Rattle.gb_laws.proofs.enumerations.Enums.{enum-waits, enums, enums-requests}
 use Rattle.gb_laws.proofs.links.LinkActs.{ServedHost, as_before, awaited-host, awaited-interface}
-use Rattle.gb_laws.proofs.links.LinkActs.{host-served, with_more}
+use Rattle.gb_laws.proofs.links.LinkActs.{host-served, with_images, with_more}
 use Rattle.gb_laws.proofs.points.PointParts.{Basis, Point, Wires, resting}
 use Rattle.gb_laws.proofs.points.Points.{Change, IsAskedBy, Law, acts_asked, acts_failed, asks}
-use Rattle.gb_laws.proofs.points.Points.{by_far}
+use Rattle.gb_laws.proofs.points.Points.{by_far, by_loader}
 use Rattle.gb_laws.proofs.points.Points.{by_host, changed, names, serves, turns, upon}
 use Rattle.gb_laws.proofs.removals.QuietRuns.{QuietTo, quiet-moment, quiet-start, quiet-throughout}
 use Rattle.gb_laws.proofs.removals.QuietRuns.{quiet_law}
@@ -49,7 +49,10 @@ pub settled-kept : (m : Moment) → InsertsAbsent m → (i : ℕ) (a : Point) (x
 settled-kept m absent i a (asks d c label free live is who) basis links there quiet h = by who
   where
     by : (w : IsAskedBy m a c d) → IsSettled i (changed m a (asks d c label free live is w))
-    by (by_far far on) =
+    by (by_far far on unloaded) =
+        settled-still (none-sent i a d label basis (far-sent d label basis there)
+        (λ one own e. far-side m a d c far own)) (λ k. k) (same-waits a.state.host) (λ q j. j) h
+    by (by_loader x going far on) =
         settled-still (none-sent i a d label basis (far-sent d label basis there)
         (λ one own e. far-side m a d c far own)) (λ k. k) (same-waits a.state.host) (λ q j. j) h
     by (by_host q rest pending draft none) =
@@ -116,6 +119,7 @@ settled-kept m absent i a (serves k kind payload none) basis links there quiet h
         → IsDone i a.state.host.interfaces
     back (as_before e) d = subst (λ (g : Host). IsDone i g.interfaces) e d
     back (with_more j c total e) d = subst (λ (g : Host). IsDone i g.interfaces) e d
+    back (with_images x e) d = subst (λ (g : Host). IsDone i g.interfaces) e d
 settled-kept m absent i a x basis links there quiet h =
     settled-still (none-same i a basis (far-moves m x basis links there)
     (keeps-requests m a x) refl) (λ j. j) (same-waits a.state.host) (asks-kept m a x tt) h

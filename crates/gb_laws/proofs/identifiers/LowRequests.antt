@@ -10,7 +10,8 @@ use Rattle.gb_invariants.proofs.Awaiting.{same-some, sent-made}
 use Rattle.gb_invariants.proofs.BusChanges.{BusChange, bus_after}
 use Rattle.gb_laws.proofs.points.ChangeBuses.{bus_change, by-bus}
 use Rattle.gb_laws.proofs.links.LinkRuns.{LinkedTo, linked-over, linked-throughout, start-absent}
-use Rattle.gb_laws.proofs.points.Points.{Change, IsAskedBy, Law, asks, by_far, by_host, changed}
+use Rattle.gb_laws.proofs.points.Points.{Change, IsAskedBy, Law, asks, by_far, by_host, by_loader}
+use Rattle.gb_laws.proofs.points.Points.{changed}
 use Rattle.gb_laws.proofs.points.Points.{names}
 use Rattle.gb_laws.proofs.points.Points.{upon}
 use Rattle.gb_laws.proofs.runs.Runs.{HoldsByMoments, throughout, weaker}
@@ -57,7 +58,8 @@ asked-low m a d c links (by_host q rest is draft none) =
     let pending = subst (ArePending a.state.host) is links.pending in
     subst (λ k. k < 128) (sym (ap (λ (x : Draft). x.kind) draft ∙ pending.0.2.kind))
     (step-low q.purpose.step)
-asked-low m a d c links (by_far who on) = on.1
+asked-low m a d c links (by_far who on unloaded) = on.1
+asked-low m a d c links (by_loader x going who on) = on.1
 
 low-kept : (m : Moment) (a : Point) (x : Change m a) → LinkedAt a → AllLow a.state.bus
     → AllLow (changed m a x).state.bus

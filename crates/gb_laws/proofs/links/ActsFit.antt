@@ -19,7 +19,7 @@ use Rattle.gb_machine.specs.Bus.{Bus}
 use Rattle.gb_machine.specs.Requests.{open_on}
 use Rattle.gb_machine.specs.Sequences.{asked_on, way_of}
 use Rattle.gb_machine.specs.Failures.{step_fails, told_of}
-use Rattle.gb_machine.specs.Host.{in_state, is_draining, link_of, with_link}
+use Rattle.gb_machine.specs.Host.{in_state, is_draining, link_of, with_freed, with_link}
 use Rattle.gb_machine.specs.SequenceSteps.{purpose}
 use Rattle.gb_invariants.proofs.HostChanges.{Finds, HostChange, HostEnd, IsClosingFor, IsFor}
 use Rattle.gb_invariants.proofs.HostChanges.{IsOfNone, MayTurnTo, Occasion, TurnLaw, acts_by}
@@ -152,7 +152,7 @@ fit-idle m b k h first none = by (link_of k h) refl
     on l found false drains = tt
     on l found true drains =
         let p = purpose l.intf l.cport steps.TellDisconnecting in
-        let g = with_link l.intf l.cport (in_state state.Closing) h in
+        let g = with_link l.intf l.cport (in_state state.Closing) (with_freed l.connection h) in
         let its = same-number l.connection k (found-in _ h.links l found).1 in
         subst (λ o. AreFit m b (disconnects o p h).acts)
         (sym (draining-at k h l first found drains)) (

@@ -6,7 +6,7 @@ use Rattle.gb_machine.specs.{LineActions.spent, Runs.Moment, Wiring.next_connect
 use Rattle.gb_laws.proofs.links.Draining.{FirstDrains, drains-changed, drains-pushed, drains-turn}
 use Rattle.gb_laws.proofs.links.Draining.{drains-unsent, drains-waiting}
 use Rattle.gb_laws.proofs.links.LinkActs.{ServedHost, as_before, awaited-host, host-served}
-use Rattle.gb_laws.proofs.links.LinkActs.{with_more}
+use Rattle.gb_laws.proofs.links.LinkActs.{with_images, with_more}
 use Rattle.gb_laws.proofs.points.Points.{Change, acts_asked, acts_failed, acts_opened, changed}
 use Rattle.gb_laws.proofs.points.Points.{serves}
 use Rattle.gb_laws.proofs.points.Points.{spends, turns}
@@ -33,6 +33,7 @@ draining-kept a (serves k kind payload none) first = by (host-served k kind payl
     by (as_before e) = subst (λ (g : Host). FirstDrains g.links) (sym e) first
     by (with_more i c total e) = subst (λ (g : Host). FirstDrains g.links) (sym e)
         (drains-changed i c (with_credits total) (credits-link total) a.state.host.links first)
+    by (with_images x e) = subst (λ (g : Host). FirstDrains g.links) (sym e) first
 draining-kept a (spends i c what none) first =
     drains-changed i c (spent what) (λ l. credits-link (spent what l).credits l)
     a.state.host.links first

@@ -8,6 +8,7 @@ use Rattle.gb_base.specs.declared.peers.{Interface.Interface, Link.Link}
 use Rattle.gb_base.specs.declared.steps.{Purpose.Purpose, SequenceStep.SequenceStep}
 use Rattle.gb_base.specs.declared.steps.SequenceStep.TheVariants as steps
 use Rattle.gb_formats.specs.{GpioRecords.GpioAsk, GpioRecords.read_gpio_ask_of_module}
+use Rattle.gb_formats.specs.{Images.Images, Images.images_step}
 use Rattle.gb_formats.specs.{Records.PayloadFault, SvcRecords.SvcAsk}
 use Rattle.gb_formats.specs.{SvcRecords.read_svc_ask_of_svc, UartDevice.credits_added}
 use Rattle.gb_formats.specs.{UartRecords.UartAsk, UartRecords.read_uart_ask_of_module}
@@ -24,11 +25,12 @@ use Rattle.gb_invariants.proofs.{Awaiting.same-some, Lists.found-in, Lists.in-at
 use Rattle.gb_invariants.proofs.{Outcomes.same-number}
 use Rattle.gb_laws.proofs.links.LinkFails.{fits-failed, fits-interface_fails, fits-through}
 use Rattle.gb_laws.proofs.links.LinkHosts.{Onto, Stay, awaits-link, credits-link, host-interface}
-use Rattle.gb_laws.proofs.links.LinkHosts.{host-link, onto-interface, onto-link, onto-same}
-use Rattle.gb_laws.proofs.links.LinkHosts.{stay-changed}
+use Rattle.gb_laws.proofs.links.LinkHosts.{host-images, host-link, onto-interface, onto-link}
+use Rattle.gb_laws.proofs.links.LinkHosts.{onto-same, stay-changed, stay-same}
 use Rattle.gb_laws.proofs.links.Links.{HasNoControl, HostFits, IsAtStep, IsDue, IsDueBy, IsFollowed}
 use Rattle.gb_laws.proofs.links.Links.{IsKnown, IsMaking, SameLink, TurnFits, connection, control}
 use Rattle.gb_laws.proofs.links.Links.{is_early, leaves, leaving, linked, stays, supervisory}
+use Rattle.gb_laws.proofs.points.LoaderFacts.{same-plugs}
 use Rattle.gb_laws.proofs.points.Points.{IsAsking, SamePlugs, asking, opening}
 use Rattle.gb_laws.proofs.{points.Awaited.awaited-rest, links.LinkFrom.Linked}
 use Rattle.gb_laws.proofs.{links.LinkLists.link-is}
@@ -229,10 +231,19 @@ linked-link i c credits {h} f =
     (stay-changed h.links i c (λ l. record l { credits = credits l })
     (λ l. credits-link (credits l) l)) f
 
--- how the application processor is once it served a request: as it was, but for credits
+-- ---- images
+
+pub linked-images : (x : Images) {b : Bus} {h : Host} → Linked b h []
+    → Linked b (record h { images = x }) []
+linked-images x {h} f = linked-stay (host-images x f.host) (stay-same h.links) f
+
+-- ---- requests are served
+
+-- how the application processor is once it served a request: as it was, but for credits or images
 pub data ServedHost (h : Host) (r : HostServed) : Type 0 where
   as_before : r.host ≡ h → ServedHost h r
   with_more : (i c total : ℕ) → r.host ≡ with_link i c (with_credits total) h → ServedHost h r
+  with_images : (x : Images) → r.host ≡ record h { images = x } → ServedHost h r
 
 host-if : (h : Host) (t : Bool) {x y : HostServed} → ServedHost h x → ServedHost h y
     → ServedHost h (cond t x y)
@@ -271,7 +282,10 @@ host-served k kind payload {h} = by (link_of k h)
     by (Some l) =
         host-if h (l.protocol == 0x02) (host-gpio h l (read_gpio_ask_of_module kind payload))
         (host-if h (l.protocol == 0x04)
-        (host-uart h l (read_uart_ask_of_module kind payload)) (as_before refl))
+        (host-uart h l (read_uart_ask_of_module kind payload))
+        (host-if h (l.protocol == 0x17)
+        (with_images (images_step l.connection kind payload h.images).after refl)
+        (as_before refl)))
 
 -- a request is served
 pub linked-served : (k kind : ℕ) (payload : List ℕ) {b : Bus} {h : Host} → Linked b h []
@@ -283,6 +297,7 @@ linked-served k kind payload {b} {h} f = by (host-served k kind payload)
     by (as_before e) = subst (λ g. Linked b g []) (sym e) f
     by (with_more i c total e) =
         subst (λ g. Linked b g []) (sym e) (linked-link i c (λ l. total) f)
+    by (with_images x e) = subst (λ g. Linked b g []) (sym e) (linked-images x f)
 
 -- what is plugged stays too
 pub awaited-plugs : (p : Purpose) (n : ℕ) {s : State}
@@ -290,15 +305,6 @@ pub awaited-plugs : (p : Purpose) (n : ℕ) {s : State}
     (with_awaited p n s).modules
 awaited-plugs p n {s} = by (is_for_connection p.step) (link_at p.intf p.cport (awaits p n s.host))
   where
-    same : SamePlugs s s.booted s.ports s.modules
-    same = record {
-      started = refl;
-      plugged = λ i. refl;
-      powered = λ i e. e;
-      differ = λ h. h;
-      whole = λ h. h;
-    }
-
     by : (t : Bool) (o : Option Link)
         → SamePlugs s (cond t (made_for n o (record s { host = awaits p n s.host }))
         (record s { host = awaits p n s.host })).booted
@@ -306,6 +312,6 @@ awaited-plugs p n {s} = by (is_for_connection p.step) (link_at p.intf p.cport (a
         (record s { host = awaits p n s.host })).ports
         (cond t (made_for n o (record s { host = awaits p n s.host }))
         (record s { host = awaits p n s.host })).modules
-    by true None = same
-    by true (Some l) = same
-    by false o = same
+    by true None = same-plugs s
+    by true (Some l) = same-plugs s
+    by false o = same-plugs s

@@ -10,7 +10,9 @@ use Rattle.gb_base.specs.declared.peers.Link.{Link}
 use Rattle.gb_base.specs.declared.steps.{Purpose.Purpose, SequenceStep.SequenceStep}
 use Rattle.gb_base.specs.declared.steps.SequenceStep.TheVariants as steps
 use Rattle.gb_machine.proofs.Conditions.{AreUnmet}
-use Rattle.gb_machine.specs.Host.{Host, in_state, is_draining, is_link, link_at, link_of, with_link}
+use Rattle.gb_machine.specs.Host.{Host, in_state, is_draining, is_link, link_at, link_of}
+use Rattle.gb_machine.specs.Host.{with_freed}
+use Rattle.gb_machine.specs.Host.{with_link}
 use Rattle.gb_machine.specs.HostRefusals.{disconnect_conditions, drain_conditions, is_closing}
 use Rattle.gb_machine.specs.HostRefusals.{is_ending, is_failed, is_unopened, link_conditions}
 use Rattle.gb_machine.specs.Sequences.{asked_on, step_asked, way_of}
@@ -22,7 +24,7 @@ use Rattle.gb_machine.specs.HostTurns.{drained, host_drains, host_idle}
 use Rattle.gb_machine.specs.Arriving.{state_takes}
 use Rattle.gb_invariants.proofs.{Awaiting.not-both, Awaiting.same-some, Found.changed-in}
 use Rattle.gb_invariants.proofs.{Found.find-changed, Lists.found-in}
-use Rattle.gb_laws.proofs.links.LinkHosts.{host-link, kept-same, onto-link, state-link}
+use Rattle.gb_laws.proofs.links.LinkHosts.{host-images, host-link, kept-same, onto-link, state-link}
 use Rattle.gb_laws.proofs.links.LinkHosts.{stay-changed}
 use Rattle.gb_laws.proofs.links.LinkHosts.{then-same}
 use Rattle.gb_laws.proofs.links.Links.{HostFits, IsAtStep, IsDeaf, IsFollowed, IsIdle, IsWaiting}
@@ -60,10 +62,6 @@ one-deaf : (b : Bus) (ls : List Link) {x : Link} (k : ℕ) → LinksFit b ls →
 one-deaf b ls {x} k fits i on deaf l j e =
     subst IsDeaf (one-link ls x l fits.rise i j (on ∙ sym e)) deaf
 
--- where a connection is closing
-closing : (i c : ℕ) → Host → Host
-closing i c h = with_link i c (in_state state.Closing) h
-
 -- what is done, once the connection is found
 fits-closing : (b : Bus) (i c : ℕ) (h : Host) (l : Link) → HostFits b h → c ≢ 0
     → find (is_link i c) h.links ≡ Some l → l.awaits ≡ None
@@ -87,24 +85,23 @@ fits-closing b i c h l fits other e idle = record {
     p = purpose i c steps.TellDisconnecting
 
     g : Host
-    g = with_link i c (in_state state.Closing) h
+    g = with_link i c (in_state state.Closing) (with_freed l.connection h)
 
     is-it : (y : Link) → find (is_link i c) h.links ≡ Some y → l ≡ y
     is-it y f = same-some l y (sym e ∙ f)
 
-    now : HostFits b (with_link i c (in_state state.Closing) h)
+    now : HostFits b g
     now = host-link i c (in_state state.Closing) (state-link state.Closing)
         (λ y j f w. waits-not (in_state state.Closing y)
         (ap (λ (x : Link). x.awaits) (sym (same-some l y (sym e ∙ f))) ∙ idle))
-        (λ y j f d. record { cport = d.cport; takes = refl }) (λ y j f d k. absurd cc) fits
+        (λ y j f d. record { cport = d.cport; takes = refl }) (λ y j f d k. absurd cc)
+        (host-images (with_freed l.connection h).images fits)
 
-    found : find (is_link i c) (with_link i c (in_state state.Closing) h).links ≡ Some
-        (in_state state.Closing l)
+    found : find (is_link i c) g.links ≡ Some (in_state state.Closing l)
     found = find-changed (is_link i c) (in_state state.Closing) h.links (λ x. refl)
         ∙ ap (option_map (in_state state.Closing)) e
 
-    due : IsIdle steps.TellDisconnecting (purpose i c steps.TellDisconnecting)
-        (with_link i c (in_state state.Closing) h).links
+    due : IsIdle steps.TellDisconnecting p g.links
     due = record {
       cport = other;
       idle = λ y f. ap (λ (x : Link). x.awaits)
@@ -113,9 +110,7 @@ fits-closing b i c h l fits other e idle = record {
           (sym (same-some (in_state state.Closing l) y (sym found ∙ f)));
     }
 
-    asked : TurnFits b (with_link i c (in_state state.Closing) h)
-        (step_asked (purpose i c steps.TellDisconnecting)
-        (with_link i c (in_state state.Closing) h))
+    asked : TurnFits b g (step_asked p g)
     asked = fits-asked p now due (λ e. absurd cc)
 
     cport : l.cport ≢ 0

@@ -6,6 +6,7 @@ use Rattle.std.specs.Prelude.{Option, not, ◌&&◌, ◌==◌}
 use Rattle.gb_base.specs.declared.entry.ConnState.{ConnState}
 use Rattle.gb_base.specs.declared.peers.{Interface.Interface, Link.Link}
 use Rattle.gb_base.specs.declared.steps.{Purpose.Purpose, SequenceStep.SequenceStep}
+use Rattle.gb_formats.specs.Images.{Images}
 use Rattle.gb_machine.specs.Host.{Host, in_state, is_intf, is_link, with_interface, with_link}
 use Rattle.gb_machine.specs.{Bus.Bus, Lists.at_first, Lists.without, Members.IsIn}
 use Rattle.gb_machine.specs.{SequenceSteps.at_step}
@@ -131,6 +132,17 @@ host-link {b} {h} i c f same waiting deaf draining fits = record {
   present = λ l j. ⊎_elim (λ o. fits.present l o) (λ w. subst (λ n. IsPresent n h.interfaces)
       (sym (ap (λ (x : Link). x.intf) w.3 ∙ (same w.0).intf)) (fits.present w.0 w.1))
       (in-first (is_link i c) f h.links l j);
+}
+
+-- ---- images change
+
+pub host-images : {b : Bus} {h : Host} (x : Images) → HostFits b h
+    → HostFits b (record h { images = x })
+host-images x fits = record {
+  links = fits.links;
+  interfaces = fits.interfaces;
+  differ = fits.differ;
+  present = fits.present;
 }
 
 -- ---- one interface changes

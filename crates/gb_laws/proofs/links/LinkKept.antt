@@ -11,7 +11,8 @@ use Rattle.gb_base.specs.declared.peers.Link.{Link}
 use Rattle.gb_formats.specs.Bridges.{credits_taken}
 use Rattle.gb_machine.proofs.Conditions.{AreUnmet, free, front-unmet}
 use Rattle.gb_machine.specs.Bus.{Bus, Connection, end_of}
-use Rattle.gb_machine.specs.Host.{Host, control_of, interface_of, with_link, with_new_interface}
+use Rattle.gb_machine.specs.Host.{Host, control_of, interface_of, with_given, with_link}
+use Rattle.gb_machine.specs.Host.{with_new_interface}
 use Rattle.gb_machine.specs.Turns.{Act, Turn}
 use Rattle.gb_machine.specs.{HostRefusals.connect_conditions, HostRefusals.disconnect_conditions}
 use Rattle.gb_machine.specs.{HostServing.host_serves}
@@ -22,7 +23,8 @@ use Rattle.gb_machine.specs.HostRefusals.{drain_conditions}
 use Rattle.gb_invariants.proofs.{BusChanges.BusChange}
 use Rattle.gb_invariants.proofs.HostChanges.{Notice, at_removal, turn_of}
 use Rattle.gb_invariants.proofs.HostChanges.{at_event, at_insertion}
-use Rattle.gb_laws.proofs.links.LinkActs.{linked-asked, linked-link, linked-served, linked-unsent}
+use Rattle.gb_laws.proofs.links.LinkActs.{linked-asked, linked-images, linked-link, linked-served}
+use Rattle.gb_laws.proofs.links.LinkActs.{linked-unsent}
 use Rattle.gb_laws.proofs.links.LinkBuses.{linked-left, linked-opened, linked-rest, linked-shut}
 use Rattle.gb_laws.proofs.links.LinkTurns.{fits-connects, fits-inserted, fits-removed}
 use Rattle.gb_laws.proofs.links.Links.{HostFits, IsFollowed, IsKnown, TurnFits, leaves, leaving}
@@ -30,7 +32,8 @@ use Rattle.gb_laws.proofs.links.Links.{linked}
 use Rattle.gb_laws.proofs.links.Links.{stays, supervisory}
 use Rattle.gb_laws.proofs.points.PointParts.{IsCaused, IsNoticed, Point}
 use Rattle.gb_laws.proofs.points.Points.{Change, acts_asked, acts_failed, acts_left, acts_opened}
-use Rattle.gb_laws.proofs.points.Points.{acts_shut, acts_told, changed, injects, serves, spends}
+use Rattle.gb_laws.proofs.points.Points.{acts_shut, acts_told, changed, gives, injects, serves}
+use Rattle.gb_laws.proofs.points.Points.{spends}
 use Rattle.gb_laws.proofs.points.Points.{turns}
 use Rattle.gb_laws.proofs.{points.ChangeBuses.bus_change, links.LinkChanges.linked-after}
 use Rattle.gb_laws.proofs.{links.LinkClosing.fits-disconnects, links.LinkEnds.fits-ended}
@@ -156,4 +159,8 @@ linked-kept m absent {a} (spends i c what none) h =
     subst (Linked a.state.bus (with_link i c (spent what) a.state.host)) (sym none.0)
     (linked-link i c (λ l. l.credits - credits_taken what)
     (subst (Linked a.state.bus a.state.host) none.0 h))
+linked-kept m absent {a} (gives tag bytes at none) h =
+    subst (Linked a.state.bus (with_given tag bytes a.state.host)) (sym at.0)
+    (linked-images (with_given tag bytes a.state.host).images
+    (subst (Linked a.state.bus a.state.host) at.0 h))
 linked-kept m absent x h = linked-after (bus_change x) tt h

@@ -14,7 +14,7 @@ use Rattle.gb_invariants.proofs.{Found.in-first, Lists.in-behind, Lists.in-pushe
 use Rattle.gb_invariants.proofs.{Wires.alive-after}
 use Rattle.gb_invariants.proofs.HostChanges.{turn_of}
 use Rattle.gb_laws.proofs.links.LinkActs.{ServedHost, as_before, awaited-host, host-served}
-use Rattle.gb_laws.proofs.links.LinkActs.{with_more}
+use Rattle.gb_laws.proofs.links.LinkActs.{with_images, with_more}
 use Rattle.gb_laws.proofs.links.LinkSources.{LinksFrom, from-turn, from-unsent, from-waiting}
 use Rattle.gb_laws.proofs.points.Points.{Change, acts_asked, acts_failed, acts_left, acts_opened}
 use Rattle.gb_laws.proofs.points.Points.{changed}
@@ -87,6 +87,7 @@ alive-kept m a x links h = by-bus (λ b. AreAlive b.connections (changed m a x).
         served (as_before e) = subst (AreAlive a.state.bus.connections) (sym e) h
         served (with_more i c total e) = subst (AreAlive a.state.bus.connections) (sym e)
             (alive-link a.state.bus.connections a.state.host i c (with_credits total) (λ l. refl) h)
+        served (with_images x e) = subst (AreAlive a.state.bus.connections) (sym e) h
     by (spends i c what none) =
         alive-link a.state.bus.connections a.state.host i c (spent what) (λ l. refl) h
     by x = λ l i. on x l i (λ e. absurd cc)

@@ -13,7 +13,7 @@ use Rattle.gb_machine.specs.Bus.{other_side, place_of, queue, request_of}
 use Rattle.gb_machine.specs.Sending.{Draft, drawn, put, queued, sent}
 use Rattle.gb_machine.specs.{Delivery.popped, Incoming.Incoming, Incoming.reply_item}
 use Rattle.gb_machine.specs.{Members.EachTwo, Members.IsIn, Runs.Moment}
-use Rattle.gb_machine.specs.{Serving.Answer, SvcQueues.items_in, SvcQueues.svc_items}
+use Rattle.gb_machine.specs.{Serving.Answer, State.Port, SvcQueues.items_in, SvcQueues.svc_items}
 use Rattle.gb_invariants.proofs.BusChanges.{BusChange, KeepsRequests, becomes, bus_after}
 use Rattle.gb_invariants.proofs.BusChanges.{found-after, number_of}
 use Rattle.gb_invariants.proofs.{Awaiting.sent-request, Labels.asked_on, Labels.asked_on-number}
@@ -22,8 +22,10 @@ use Rattle.gb_invariants.proofs.Awaiting.{sent-made}
 use Rattle.gb_invariants.proofs.Selves.{ap-no-far}
 use Rattle.gb_laws.proofs.marks.Marks.{AreAsked, AreInserted, item_mark, marks, marks-first}
 use Rattle.gb_laws.proofs.marks.Marks.{marks-more, marks-unmarked, marks_of}
-use Rattle.gb_laws.proofs.points.Points.{Change, IsAskedBy, IsElse, IsOfSvc, acts_asked, asks}
-use Rattle.gb_laws.proofs.points.Points.{by_far, by_host, by_module, by_svc, changed, injects}
+use Rattle.gb_laws.proofs.points.LoaderFacts.{asked-plugs, module-plugs}
+use Rattle.gb_laws.proofs.points.Points.{Change, IsAskedBy, IsElse, IsFarAsking, IsOfSvc, SamePlugs}
+use Rattle.gb_laws.proofs.points.Points.{acts_asked, asks, by_far, by_host, by_loader, by_module}
+use Rattle.gb_laws.proofs.points.Points.{by_svc, changed, finishes, injects}
 use Rattle.gb_laws.proofs.points.Points.{names, others, recalls, replies, takes, unwires}
 use Rattle.gb_laws.proofs.svc.SvcThere.{not-one, svc-new, svc-stays}
 use Rattle.gb_laws.proofs.{points.Awaited.awaited-rest, points.ChangeBuses.bus_change}
@@ -176,10 +178,15 @@ marks-kept : (m : Moment) (a : Point) (x : Change m a) → TakesNone m a x
 marks-kept m a (asks d c label free live drawn who) none other basis links i ps =
     marks-asked a d c label i ps basis links live (by who)
   where
+    far_asks : IsFarAsking m c d
+        → (d.side ≡ side.Ap) ⊎ ((j : ℕ) × (p : ℕ) × (c.peer ≡ end.Module j p))
+    far_asks (by_module j p e far) = inr (j, p, e)
+    far_asks (by_svc of far) = absurd (other of)
+
     by : IsAskedBy m a c d → (d.side ≡ side.Ap) ⊎ ((j : ℕ) × (p : ℕ) × (c.peer ≡ end.Module j p))
     by (by_host q rest is e none) = inl (ap (λ (x : Draft). x.side) e)
-    by (by_far (by_module j p e far) on) = inr (j, p, e)
-    by (by_far (by_svc of far) on) = absurd (other of)
+    by (by_far far on unloaded) = far_asks far
+    by (by_loader x going far on) = far_asks far
 marks-kept m a (names name d c label free live drawn host) none other basis links i ps =
     marks-asked a d c label i ps basis links live (inl host.0)
 marks-kept m a (takes at p item free start is named front) none other basis links i ps = absurd none
@@ -206,19 +213,42 @@ inserted-kept : (m : Moment) (a : Point) (x : Change m a) → (IsOfSvc m.event �
 inserted-kept m a x other links h =
     by-bus AreInserted x (inserted-after (bus_change x) a.state.bus (by x) h)
   where
+    far_asks : (d : Draft) (c : Connection) → connection_of d.connection a.state.bus ≡ Some c
+        → IsFarAsking m c d → d.connection ≡ 1 → ⊥
+    far_asks d c live (by_module j p e at) one =
+        let f = found-number d.connection a.state.bus c live in
+        module-no-svc (sym e ∙ (links.svc c f.0 (f.1 ∙ one)).peer)
+    far_asks d c live (by_svc of at) one = other of
+
     asked : (d : Draft) (c : Connection) → connection_of d.connection a.state.bus ≡ Some c
         → IsAskedBy m a c d → d.connection ≡ 1 → d.side ≡ side.Far → ⊥
     asked d c live (by_host q rest is e none) one far =
         ap-no-far (ap (λ (x : Draft). x.side) (sym e) ∙ far)
-    asked d c live (by_far (by_module j p e at) on) one far =
-        let f = found-number d.connection a.state.bus c live in
-        module-no-svc (sym e ∙ (links.svc c f.0 (f.1 ∙ one)).peer)
-    asked d c live (by_far (by_svc of at) on) one far = other of
+    asked d c live (by_far at on unloaded) one far = far_asks d c live at one
+    asked d c live (by_loader x going at on) one far = far_asks d c live at one
 
     by : (x : Change m a) → AsksElse (bus_change x)
     by (asks d c label free live drawn who) = asked d c live who
     by (names name d c label free live drawn host) = λ one far. ap-no-far (sym host.0 ∙ far)
     by _ = tt
+
+-- what stays where modules change, and what is plugged stays
+frame-modules : (m : Moment) → (IsOfSvc m.event → ⊥) → (a : Point) (x : Change m a)
+    → TakesNone m a x → Basis a → LinkedAt a → {ports : List Port}
+    → SamePlugs a.state (changed m a x).state.booted ports (changed m a x).state.modules
+    → KnownAt m (changed m a x) → (changed m a x).state.past.pulled ≡ a.state.past.pulled
+    → FrameAt m a → FrameAt m (changed m a x)
+frame-modules m other a x none basis links {ports} plugs known pulled h = record {
+  same = λ i ps. marks-kept m a x none other basis links i ps ∙ h.same i ps;
+  known = known;
+  started = plugs.started ∙ h.started;
+  plugged = λ i. plugs.plugged i ∙ h.plugged i;
+  differ = plugs.differ h.differ;
+  whole = plugs.whole h.whole;
+  told = inserted-kept m a x other links h.told;
+  pulled = pulled ∙ h.pulled;
+  keeps = λ k r made. keeps-requests m a x k r (h.keeps k r made);
+}
 
 pub frame-kept : (m : Moment) → (IsOfSvc m.event → ⊥)
     → (a : Point) (x : Change m a) → Basis a → LinkedAt a → FrameAt m a → FrameAt m (changed m a x)
@@ -235,18 +265,10 @@ frame-kept m other a (takes at p item free start is named front) basis links h =
   pulled = h.pulled;
   keeps = h.keeps;
 }
-frame-kept m other a (acts_asked q n rest is) basis links h = record {
-  same = λ i ps. marks-kept m a (acts_asked q n rest is) tt other basis links i ps ∙ h.same i ps;
-  known = known-kept m a (acts_asked q n rest is) h.known;
-  started = (awaited-plugs q.purpose n).started ∙ h.started;
-  plugged = λ i. (awaited-plugs q.purpose n).plugged i ∙ h.plugged i;
-  differ = (awaited-plugs q.purpose n).differ h.differ;
-  whole = (awaited-plugs q.purpose n).whole h.whole;
-  told = inserted-kept m a (acts_asked q n rest is) other links h.told;
-  pulled = (awaited-rest q.purpose n).pulled ∙ h.pulled;
-  keeps = λ k r made. keeps-requests m a (acts_asked q n rest is) k r (h.keeps k r made);
-}
-frame-kept m other a (others booted marks ports modules same) basis links h = by same
+frame-kept m other a (acts_asked q n rest is) basis links h =
+    frame-modules m other a (acts_asked q n rest is) tt basis links (awaited-plugs q.purpose n)
+    (known-kept m a (acts_asked q n rest is) h.known) (awaited-rest q.purpose n).pulled h
+frame-kept m other a (others booted marks ports modules same) basis links h = by same.0
   where
     by : IsElse m a booted marks ports modules
         → FrameAt m (changed m a (others booted marks ports modules same))
@@ -263,6 +285,12 @@ frame-kept m other a (others booted marks ports modules same) basis links h = by
     }
     by (inr of) = absurd (other of.0)
 frame-kept m other a (recalls n i of made) basis links h = absurd (other of)
+frame-kept m other a (asks d c label free live drawn who) basis links h =
+    frame-modules m other a (asks d c label free live drawn who) tt basis links
+    (asked-plugs m a c d who) (known-kept m a (asks d c label free live drawn who) h.known) refl h
+frame-kept m other a (finishes i c x tag size idle is) basis links h =
+    frame-modules m other a (finishes i c x tag size idle is) tt basis links
+    (module-plugs a.state i x) (known-kept m a (finishes i c x tag size idle is) h.known) refl h
 frame-kept m other a x basis links h = record {
   same = λ i ps. marks-kept m a x tt other basis links i ps ∙ h.same i ps;
   known = known-kept m a x h.known;

@@ -18,7 +18,8 @@ use Rattle.gb_invariants.proofs.HostChanges.{Occasion, TurnLaw, at_insertion, at
 use Rattle.gb_invariants.proofs.HostChanges.{end_of, host_after, turn_of}
 use Rattle.gb_invariants.proofs.Lists.{in-at_first, in-without}
 use Rattle.gb_invariants.proofs.{Found.in-ordered, OverTurns.over-turn, OverFailures.over-unsent}
-use Rattle.gb_laws.proofs.links.LinkActs.{ServedHost, as_before, host-served, with_more}
+use Rattle.gb_laws.proofs.links.LinkActs.{ServedHost, as_before, host-served, with_images}
+use Rattle.gb_laws.proofs.links.LinkActs.{with_more}
 
 -- an interface of a module is known
 pub record IsNamed (i p : ℕ) (h : Host) : Type 0 where
@@ -142,3 +143,4 @@ served-named k kind payload h = by (host-served k kind payload)
         → NamesFewer h (host_serves k kind payload h).host
     by (as_before e) = subst (NamesFewer h) (sym e) (named-one h)
     by (with_more i c total e) = subst (NamesFewer h) (sym e) (named-one h)
+    by (with_images x e) = subst (NamesFewer h) (sym e) (named-one h)

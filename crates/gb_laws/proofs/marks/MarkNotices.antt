@@ -17,8 +17,8 @@ use Rattle.gb_machine.specs.Bus.{Ask, Bus, Connection, Item, Request, connection
 use Rattle.gb_machine.specs.Bus.{request_of}
 use Rattle.gb_machine.specs.Host.{Host, first_host, link_of}
 use Rattle.gb_machine.specs.HostServing.{HostServed, credited, host_refuses, interrupted}
-use Rattle.gb_machine.specs.HostServing.{notified_by, served_on, serves_gpio, serves_svc}
-use Rattle.gb_machine.specs.HostServing.{serves_uart, uart_notified_by}
+use Rattle.gb_machine.specs.HostServing.{notified_by, served_on, serves_firmware, serves_gpio}
+use Rattle.gb_machine.specs.HostServing.{serves_svc, serves_uart, uart_notified_by}
 use Rattle.gb_machine.specs.Incoming.{Incoming, incoming, request_in}
 use Rattle.gb_machine.specs.SvcQueues.{HandlesRemoval, is_told, items_in, svc_items}
 use Rattle.gb_machine.specs.{Lists.behind_first, Lists.first, Runs.Moment, State.State}
@@ -61,8 +61,10 @@ pub unnoticed : (l : Link) (kind : ℕ) (payload : List ℕ) (h : Host)
 unnoticed l kind payload h =
     unnoticed-if (l.protocol == 0x02) (serves_gpio l kind payload h) _
     (unnoticed-gpio h l (read_gpio_ask_of_module kind payload))
-    (unnoticed-if (l.protocol == 0x04) (serves_uart l kind payload h) (host_refuses _ h)
-    (unnoticed-uart h l (read_uart_ask_of_module kind payload)) refl)
+    (unnoticed-if (l.protocol == 0x04) (serves_uart l kind payload h) _
+    (unnoticed-uart h l (read_uart_ask_of_module kind payload))
+    (unnoticed-if (l.protocol == 0x17) (serves_firmware l kind payload h) (host_refuses _ h)
+    refl refl))
 
 -- ---- what is noticed is what the supervisory controller tells
 

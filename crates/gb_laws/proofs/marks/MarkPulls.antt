@@ -66,7 +66,7 @@ record IsAway (p : Plugged) (s t : State) : Type 0 where
   host : t.host ≡ s.host
   modules : t.modules ≡ unplugged_all (interfaces_of p) s.modules
   started : t.booted ≡ s.booted
-  past : t.past ≡ s.past
+  pulled : t.past.pulled ≡ s.past.pulled
   keeps : KeepsRequests s.bus t.bus
   asked : QueueIsAsked t.bus
   told : AreInserted t.bus
@@ -96,13 +96,13 @@ module _ (p : Plugged) (s : State) (here : IsIn p s.modules) (start : MarksFit s
         (sym (ap (option_map (λ (x : Interface). x.primary)) (unknown j)) ∙ e)));
     unstarted = λ e j. (unmarked j, unknown j);
     differ = away-differ t away;
-    pulled = subst (λ (q : Past). ArePulled q.pulled t.bus) (sym away.past) (away-pulled t away);
+    pulled = subst (λ ps. ArePulled ps t.bus) (sym away.pulled) (away-pulled t away);
     whole = away-whole t away;
     told = away.told;
   }
     where
       unmarked : (j : ℕ) → marks j t.past.pulled t.bus ≡ []
-      unmarked j = ap (λ (q : Past). marks j q.pulled t.bus) away.past
+      unmarked j = ap (λ ps. marks j ps t.bus) away.pulled
           ∙ away.marks_still j s.past.pulled ∙ (start.unstarted unbooted j).0
 
       unknown : (j : ℕ) → interface_of j t.host ≡ None
@@ -138,7 +138,7 @@ module _ (p : Plugged) (s : State) (here : IsIn p s.modules) (start : MarksFit s
       apart q count e = absurd cc
 
       past : t.past.pulled ≡ s.past.pulled
-      past = ap (λ (q : Past). q.pulled) (a.past ∙ away.past)
+      past = ap (λ (q : Past). q.pulled) a.past ∙ away.pulled
 
       untold : (j : ℕ) → is_told (next_number u.bus) j s.past.pulled ≡ false
       untold j = untold-yet (next_number u.bus) j s.past.pulled u.bus
@@ -209,7 +209,7 @@ module _ (p : Plugged) (s : State) (here : IsIn p s.modules) (start : MarksFit s
         host = c.svc.host;
         modules = c.modules;
         started = c.svc.started;
-        past = c.svc.past;
+        pulled = c.svc.pulled;
         keeps = λ k r made. ap (nth k) c.svc.requests ∙ made;
         asked = svc-asked s c.svc asked;
         told = λ k r made. start.told k r (sym (ap (nth k) c.svc.requests) ∙ made);

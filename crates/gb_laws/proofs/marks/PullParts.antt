@@ -25,14 +25,14 @@ use Rattle.gb_laws.proofs.steps.Ticking.{unwired-plugs, wired-live}
 
 -- ---- the supervisory controller's connection
 
--- what of it, and of all but what is plugged, stays where others are unwired
+-- what of it, and of what marks rest on but for what is plugged, stays where others are unwired
 pub record SameSvc (s t : State) : Type 0 where
   pub connection : connection_of 1 t.bus ≡ connection_of 1 s.bus
   pub used : (label : ℕ) → is_used 1 side.Far t.bus label ≡ is_used 1 side.Far s.bus label
   pub requests : t.bus.requests ≡ s.bus.requests
   pub host : t.host ≡ s.host
   pub started : t.booted ≡ s.booted
-  pub past : t.past ≡ s.past
+  pub pulled : t.past.pulled ≡ s.past.pulled
 
 pub svc-refl : (s : State) → SameSvc s s
 svc-refl s = record {
@@ -41,7 +41,7 @@ svc-refl s = record {
   requests = refl;
   host = refl;
   started = refl;
-  past = refl;
+  pulled = refl;
 }
 
 pub svc-then : {s t u : State} → SameSvc s t → SameSvc t u → SameSvc s u
@@ -51,7 +51,7 @@ svc-then a b = record {
   requests = b.requests ∙ a.requests;
   host = b.host ∙ a.host;
   started = b.started ∙ a.started;
-  past = b.past ∙ a.past;
+  pulled = b.pulled ∙ a.pulled;
 }
 
 -- what is found by number 1 stays where a connection with another number changes
@@ -86,7 +86,7 @@ unwires-svc (n ∷ ns) {s} other =
       requests = refl;
       host = refl;
       started = refl;
-      past = refl;
+      pulled = refl;
     }) (unwires-svc ns other.1)
 
 -- connection 1 is to the supervisory controller
@@ -140,7 +140,7 @@ pulls-each (i ∷ is) s one =
         requests = cut.requests;
         host = cut.host;
         started = cut.started;
-        past = cut.past;
+        pulled = cut.pulled;
       }) r.svc;
       one = r.one;
       modules = r.modules ∙ ap (λ ms. unplugged_all is (unplugged i ms))

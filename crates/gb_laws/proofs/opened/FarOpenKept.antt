@@ -20,7 +20,8 @@ use Rattle.gb_laws.proofs.opened.FarOpen.{FarFits, IsFarWell, far-after}
 use Rattle.gb_laws.proofs.links.LinkActs.{awaited-host}
 use Rattle.gb_laws.proofs.creations.Pairs.{ComeFrom, come-from, come-link, come-same, come-served}
 use Rattle.gb_laws.proofs.points.Points.{Change, IsAskedBy, acts_asked, acts_failed, acts_left}
-use Rattle.gb_laws.proofs.points.Points.{acts_opened, asks, by_far, by_host, changed, gives_up}
+use Rattle.gb_laws.proofs.points.Points.{acts_opened, asks, by_far, by_host, by_loader, changed}
+use Rattle.gb_laws.proofs.points.Points.{gives_up}
 use Rattle.gb_laws.proofs.points.Points.{names}
 use Rattle.gb_laws.proofs.points.Points.{serves, spends, turns}
 use Rattle.gb_laws.proofs.{points.Awaited.awaited-rest, links.LinkBuses.new_link}
@@ -128,18 +129,25 @@ GoesWell m a (acts_left k rest free untouched is) =
     (c : Connection) → IsIn c a.state.bus.connections → c.number ≡ k → c.wired ≡ true → ⊥
 GoesWell m a _ = Unit {0}
 
+-- a connection that is found is wired
+wired-on : (k : ℕ) (c : Connection) {a : Point} → Basis a → connection_of k a.state.bus ≡ Some c
+    → c.wired ≡ true → AreOn k a.state.bus
+wired-on k c {a} basis live wired = let f = found-number k a.state.bus c live in record {
+  wired = λ x here e. ap (λ (y : Connection). y.wired) (same-some x c
+      (sym (subst (λ j. connection_of j a.state.bus ≡ Some x) e
+      (found-by_number a.state.bus.connections x basis.bus.numbers.rise here)) ∙ live)) ∙ wired;
+  there = record { connection = c; live = f.0; number = f.1 };
+}
+
 far-asked : (m : Moment) (a : Point) (d : Draft) (c : Connection) → Basis a
     → connection_of d.connection a.state.bus ≡ Some c → IsAskedBy m a c d → d.side ≡ side.Far
     → AreOn d.connection a.state.bus
 far-asked m a d c basis live (by_host q rest is draft none) far = absurd (ap-no-far
     (sym (ap (λ (x : Draft). x.side) draft) ∙ far))
-far-asked m a d c basis live (by_far who on) far =
-    let f = found-number d.connection a.state.bus c live in record {
-      wired = λ x here e. ap (λ (y : Connection). y.wired) (same-some x c
-          (sym (subst (λ k. connection_of k a.state.bus ≡ Some x) e
-          (found-by_number a.state.bus.connections x basis.bus.numbers.rise here)) ∙ live)) ∙ on.0;
-      there = record { connection = c; live = f.0; number = f.1 };
-    }
+far-asked m a d c basis live (by_far who on unloaded) far =
+    wired-on d.connection c basis live on.0
+far-asked m a d c basis live (by_loader x going who on) far =
+    wired-on d.connection c basis live on.0
 
 pub far-kept : (m : Moment) (a : Point) (x : Change m a) → Basis a → GoesWell m a x → FarAt a
     → FarAt (changed m a x)

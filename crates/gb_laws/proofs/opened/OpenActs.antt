@@ -15,11 +15,12 @@ use Rattle.gb_machine.specs.{LawsBus.is_awaited, Members.IsIn, Requests.is_of, R
 use Rattle.gb_machine.specs.{Sending.Draft, SequenceSteps.asks_control}
 use Rattle.gb_invariants.proofs.Awaiting.{AwaitsFewer, is-of, not-both, side_ended-before}
 use Rattle.gb_invariants.proofs.{Lists.in-pushed, Numbers.found-number, Outcomes.is-same}
-use Rattle.gb_invariants.proofs.{Outcomes.same-number, Selves.ap-no-far}
+use Rattle.gb_invariants.proofs.{Outcomes.same-number}
+use Rattle.gb_laws.proofs.creations.CreatingKept.{far-side}
 use Rattle.gb_laws.proofs.links.LinkSides.{is_shut, shut-gone, shut-left, shut-more, shut-other}
 use Rattle.gb_laws.proofs.links.LinkSides.{shut-self, shut_of, side_ended-none}
 use Rattle.gb_laws.proofs.opened.Opens.{IsUpon, Opens, open-found, open-link, open-svc}
-use Rattle.gb_laws.proofs.points.Points.{IsAskedBy, IsPlain, by_far, by_host, by_module, by_svc}
+use Rattle.gb_laws.proofs.points.Points.{IsAskedBy, IsPlain, by_far, by_host, by_loader}
 use Rattle.gb_laws.proofs.{links.LinkBuses.new_link, links.LinkCloses.LeavesOpen}
 use Rattle.gb_laws.proofs.{links.LinkFrom.Linked}
 use Rattle.gb_laws.proofs.{links.LinkKept.LinkedAt, links.Links.ArePending, points.PointParts.Point}
@@ -50,10 +51,10 @@ pub upon-asked : (m : Moment) (a : Point) (d : Draft) (c : Connection)
     → d.side ≡ side.Ap → IsUpon d.connection a.state.bus a.pending
 upon-asked m a d c live links (by_host q rest is draft none) ap_side =
     upon-host m a d c q rest live links is (ap (λ (x : Draft). x.connection) draft)
-upon-asked m a d c live links (by_far (by_module i p at far) on) ap_side = absurd (ap-no-far
-    (sym ap_side ∙ far))
-upon-asked m a d c live links (by_far (by_svc of far) on) ap_side = absurd
-    (ap-no-far (sym ap_side ∙ far))
+upon-asked m a d c live links (by_far far on unloaded) ap_side =
+    absurd (far-side m a d c far ap_side)
+upon-asked m a d c live links (by_loader x going far on) ap_side =
+    absurd (far-side m a d c far ap_side)
 
 -- a line that asks
 pub upon-line : (a : Point) (d : Draft) (c : Connection)

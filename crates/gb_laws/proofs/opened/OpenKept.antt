@@ -1,21 +1,23 @@
 -- That the requests of the application processor are upon live connections is kept by
 -- each single change.
-use Rattle.std.proofs.Common.{Some, inl, inr, refl, subst, sym, ⊎_elim}
+use Rattle.std.proofs.Common.{Some, ap, inl, inr, refl, subst, sym, ⊎_elim}
+use Rattle.gb_machine.specs.Host.{Host, with_given}
 use Rattle.gb_machine.specs.{HostActs.with_awaited, HostServing.host_serves}
 use Rattle.gb_machine.specs.{HostServing.with_credits, LineActions.spent, Members.IsIn, Runs.Moment}
 use Rattle.gb_machine.specs.{Turns.Act}
 use Rattle.gb_invariants.proofs.{Awaiting.gave_up-before, BusChanges.awaits-after, Lists.each-in}
 use Rattle.gb_invariants.specs.Facts.{IsMade}
 use Rattle.gb_laws.proofs.links.LinkActs.{ServedHost, as_before, awaited-host, host-served}
-use Rattle.gb_laws.proofs.links.LinkActs.{with_more}
-use Rattle.gb_laws.proofs.links.LinkCloses.{ClosesFewer, fewer-kept, fewer-unsent, fewer-waiting}
+use Rattle.gb_laws.proofs.links.LinkActs.{with_images, with_more}
+use Rattle.gb_laws.proofs.links.LinkCloses.{ClosesFewer, fewer-kept, fewer-links, fewer-unsent}
+use Rattle.gb_laws.proofs.links.LinkCloses.{fewer-waiting}
 use Rattle.gb_laws.proofs.opened.OpenActs.{opens-left, opens-opened, opens-shut, upon-asked}
 use Rattle.gb_laws.proofs.opened.OpenActs.{upon-line}
 use Rattle.gb_laws.proofs.opened.Opens.{Opens, opens-act, opens-fewer, opens-host, opens-sent}
 use Rattle.gb_laws.proofs.points.Points.{Change, IsAsking, acts_asked, acts_failed, acts_left}
 use Rattle.gb_laws.proofs.points.Points.{acts_opened}
 use Rattle.gb_laws.proofs.points.Points.{acts_shut, acts_told, asking, asks, changed, gives_up}
-use Rattle.gb_laws.proofs.points.Points.{names}
+use Rattle.gb_laws.proofs.points.Points.{gives, names}
 use Rattle.gb_laws.proofs.points.Points.{opening, serves, spends, turns}
 use Rattle.gb_laws.proofs.{points.Awaited.awaited-rest, points.ChangeBuses.bus_change}
 use Rattle.gb_laws.proofs.{links.LinkCloses.closes-turn}
@@ -82,8 +84,12 @@ opens-kept m a (serves k kind payload none) basis links h =
     by (as_before e) = subst (ClosesFewer a.state.host) (sym e) (λ n x. x)
     by (with_more i c total e) = subst (ClosesFewer a.state.host) (sym e)
         (fewer-kept i c (with_credits total) a.state.host (λ l. refl) (λ l. refl))
+    by (with_images x e) =
+        fewer-links a.state.host _ (ap (λ (g : Host). g.links) e)
 opens-kept m a (spends i c what none) basis links h =
     opens-host (fewer-kept i c (spent what) a.state.host (λ l. refl) (λ l. refl)) h
+opens-kept m a (gives tag bytes at none) basis links h =
+    opens-host (fewer-links a.state.host (with_given tag bytes a.state.host) refl) h
 opens-kept m a x basis links h =
     opens-fewer
     (awaits-after (bus_change x) a.state.bus tt) (shut-after (bus_change x) a.state.bus tt) h

@@ -9,7 +9,7 @@ use Rattle.gb_laws.proofs.enumerations.AskedWaits.{AsksIn, WaitsFewer, asks-more
 use Rattle.gb_laws.proofs.enumerations.AskedWaits.{same-waits}
 use Rattle.gb_laws.proofs.links.LinkActs.{ServedHost, as_before, awaited-host, awaits-fits}
 use Rattle.gb_laws.proofs.links.LinkActs.{host-served}
-use Rattle.gb_laws.proofs.links.LinkActs.{unsent-due, unsent-making, with_more}
+use Rattle.gb_laws.proofs.links.LinkActs.{unsent-due, unsent-making, with_images, with_more}
 use Rattle.gb_laws.proofs.links.LinkHosts.{Stay, credits-link, same-link, stay-changed, stay-same}
 use Rattle.gb_laws.proofs.points.Points.{Change, IsAsking, acts_asked, acts_failed, acts_left}
 use Rattle.gb_laws.proofs.points.Points.{acts_opened}
@@ -73,6 +73,7 @@ waits-kept m a (serves k kind payload none) still = by (host-served k kind paylo
         → WaitsFewer a.state.host (host_serves k kind payload a.state.host).host
     by (as_before e) = subst (WaitsFewer a.state.host) (sym e) (same-waits a.state.host)
     by (with_more i c total e) = subst (WaitsFewer a.state.host) (sym e) (same-waits a.state.host)
+    by (with_images x e) = subst (WaitsFewer a.state.host) (sym e) (same-waits a.state.host)
 waits-kept m a _ still = same-waits a.state.host
 
 -- Connections stay, unless it takes notice of something.
@@ -101,6 +102,8 @@ stay-kept m a (serves k kind payload none) still links = by (host-served k kind 
         (stay-same a.state.host.links)
     by (with_more i c total e) = subst (λ (g : Host). Stay a.state.host.links g.links) (sym e)
         (stay-changed a.state.host.links i c (with_credits total) (credits-link total))
+    by (with_images x e) = subst (λ (g : Host). Stay a.state.host.links g.links) (sym e)
+        (stay-same a.state.host.links)
 stay-kept m a (spends i c what none) still links =
     stay-changed a.state.host.links i c (spent what) (λ l. credits-link _ l)
 stay-kept m a _ still links = stay-same a.state.host.links

@@ -67,7 +67,7 @@ trails_gone (continues i c x) k n trails = longer_trail i c n trails
 abbrev pub IsOwnDraft : OwnAsk → Draft → Type 0
 IsOwnDraft own d = (d.side ≡ side.Far) × (d.kind ≡ own.kind) × (d.payload ≡ own.payload)
 
--- At this moment the answer of success to request n is delivered at a module's CPort, on the
+-- At this moment the answer of success to request n is delivered at the side that made it, on the
 -- connection of that request. On a clean one it is the item with its number.
 pub record IsHeard (m : Moment) (n : ℕ) (payload : List ℕ) : Type 0 where
   pub at : End
@@ -76,12 +76,11 @@ pub record IsHeard (m : Moment) (n : ℕ) (payload : List ℕ) : Type 0 where
   pub request : Request
   pub event : m.event ≡ event.Deliver at
   pub named : place_of at m.before.bus.connections ≡ Some place
-  pub far : place.side ≡ side.Far
   pub front : first (queue place.side place.connection) ≡ Some item
   pub unended : is_open n m.before.bus ≡ true
   pub made : request_of n m.before.bus ≡ Some request
   pub on : request.connection ≡ place.connection.number
-  pub side : request.side ≡ side.Far
+  pub side : request.side ≡ place.side
   pub numbered : place.connection.clean ≡ true → item ≡ Reply n success payload
 
 -- The last request of the firmware device at a CPort is answered with success, and so is the module

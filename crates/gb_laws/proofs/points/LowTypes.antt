@@ -229,6 +229,7 @@ device-low (devices.I2c device) kind payload = i2c_read-low device (read_i2c_ask
 device-low (devices.Spi last) kind payload = spi_read-low last (read_spi_ask kind payload)
 device-low devices.Uart kind payload = uart_read-low (read_uart_ask_of_ap kind payload)
 device-low devices.Loopback kind payload = loopback_read-low (read_loopback_ask kind payload)
+device-low (devices.Firmware loader) kind payload = tt
 
 -- requests are left out or not
 if_on-low : (state : CportState) (asks : List OwnAsk) → AreLow asks → AreLow (if_on state asks)
@@ -292,6 +293,7 @@ device_stir-low (devices.I2c device) stir t is = absurd cc
 device_stir-low (devices.Spi last) stir t is = absurd cc
 device_stir-low devices.Uart (devices.Level which new) t is = absurd cc
 device_stir-low devices.Loopback stir t is = absurd cc
+device_stir-low (devices.Firmware loader) stir t is = absurd cc
 
 -- What a module asks where a device of it is stirred.
 pub stir-low : (m : Module) (c : ℕ) (stir : Stir) (t : Stirred Module)

@@ -9,20 +9,21 @@ use Rattle.gb_base.specs.declared.outcome.Outcome.TheVariants as outcome
 use Rattle.gb_machine.proofs.{Lists.nth-within, Opened.machine_opened}
 use Rattle.gb_machine.specs.Bus.{Bus, Request, is_open, next_number, outcome_of, request_of}
 use Rattle.gb_machine.specs.Requests.{gave_up, is_due, is_of, open_on, open_requests}
-use Rattle.gb_machine.specs.{GivingUp.gives_up, GivingUp.later_by, Lists.lookup, Lists.nth}
-use Rattle.gb_machine.specs.{Members.Each, Members.IsIn, Runs.Moment, Sending.Draft, Sending.sent}
-use Rattle.gb_machine.specs.{State.State}
+use Rattle.gb_machine.specs.{GivingUp.gives_up, GivingUp.later_by, HostActs.host_follows}
+use Rattle.gb_machine.specs.{Lists.lookup, Lists.nth, Members.Each, Members.IsIn, Runs.Moment}
+use Rattle.gb_machine.specs.{Sending.Draft, Sending.sent, State.State}
 use Rattle.gb_machine.specs.Wiring.{all_ended, shut_down, with_connection}
 use Rattle.gb_invariants.proofs.Awaiting.{is-open, opened, sent-request}
 use Rattle.gb_invariants.proofs.Outcomes.{in-open_requests, lookup-past, open_requests-in}
 use Rattle.gb_laws.proofs.points.PointParts.{IsLate, IsShutFor, Point, disconnected, idle, removed}
 use Rattle.gb_laws.proofs.points.Points.{Change, acts_asked, acts_failed, acts_left, acts_opened}
-use Rattle.gb_laws.proofs.points.Points.{acts_shut, acts_told, asks, changed, tells, turns}
-use Rattle.gb_laws.proofs.{points.Awaited.awaited-rest, steps.StepActLaws.ActLaw}
-use Rattle.gb_laws.proofs.{steps.StepActLaws.IsActing}
+use Rattle.gb_laws.proofs.points.Points.{acts_shut, acts_told, asks, by_far, by_host, by_loader}
+use Rattle.gb_laws.proofs.points.Points.{changed, tells, turns}
+use Rattle.gb_laws.proofs.{points.Awaited.awaited-rest, steps.LoadFailures.load-fails}
+use Rattle.gb_laws.proofs.{steps.StepActLaws.ActLaw, steps.StepActLaws.IsActing}
+use Rattle.gb_laws.proofs.{steps.StepIdles.goes-host_follows}
 use Rattle.gb_laws.proofs.links.DrainingKept.{FirstDrainsAt, draining-kept}
 use Rattle.gb_laws.proofs.links.Draining.{FirstDrains}
-use Rattle.gb_laws.proofs.steps.StepIdles.{goes-follows}
 
 -- ---- requests that are late stay open until they are given up
 
@@ -97,7 +98,11 @@ overdue-same m k {s} {t} requests outcomes now h = record {
 overdue-kept : (m : Moment) (k : ℕ) (a : Point) (x : Change m a) → IsActing m a x
     → IsOverdue m k a.state → IsOverdue m k (changed m a x).state
 overdue-kept m k a (tells e quiet) is h = h
-overdue-kept m k a (asks d c label free live drawn who) is h = overdue-sent m d label k a.state h
+overdue-kept m k a (asks d c label free live drawn (by_host q rest at same none)) is h =
+    overdue-sent m d label k a.state h
+overdue-kept m k a (asks d c label free live drawn (by_far who on unloaded)) is h =
+    overdue-sent m d label k a.state h
+overdue-kept m k a (asks d c label free live drawn (by_loader x going who on)) is h = absurd is
 overdue-kept m k a (turns e free untouched none cause) is h =
     overdue-same m k refl refl refl h
 overdue-kept m k a (acts_told e rest at quiet) is h = h
@@ -125,8 +130,12 @@ overdue-after : (m : Moment) (n k : ℕ) (s : State) → n < k → FirstDrains s
     → IsOverdue m k s → IsOverdue m k (gives_up outcome.Timeout n s).state
 unfolding machine_opened
 overdue-after m n k s less first h =
-    (goes-follows m (overdue m k) (λ a h. h.0) n outcome.Timeout
-    (record s { bus = gave_up n outcome.Timeout s.bus }) (λ r p e. absurd cc) [] (
+    let followed = host_follows n outcome.Timeout given_up in
+    let fails = load-fails n outcome.Timeout followed.state (λ won. absurd (other won.0 won.1)) in
+    overdue-same m k (ap (λ (t : State). t.bus.requests) fails.state)
+    (ap (λ (t : State). t.bus.outcomes) fails.state) (ap (λ (t : State). t.now) fails.state)
+    (goes-host_follows m (overdue m k) (λ a h. h.0) n outcome.Timeout given_up (λ r p e. absurd cc)
+    [] (
       first,
       record {
         unended =
@@ -143,6 +152,12 @@ overdue-after m n k s less first h =
         };
       },
     )).1
+  where
+    given_up : State
+    given_up = record s { bus = gave_up n outcome.Timeout s.bus }
+
+    other : (payload : List ℕ) → outcome.Timeout ≡ outcome.Answered 0 payload → ⊥
+    other payload e = absurd cc
 
 -- the others are overdue still
 pub overdue-others : (m : Moment) (n : ℕ) (ks : List ℕ) (s : State) → FirstDrains s.host.links

@@ -108,13 +108,13 @@ pub data IsFarAsking (m : Moment) (c : Connection) (d : Draft) : Type 0 where
 
 -- Who asks on a connection at a point: the application processor does an act, and its sequence is
 -- to wait for the request; or a far side asks on a connection that is wired, and with a type that a
--- request can have: another one than a firmware device, or a firmware device, whose download begins
--- or goes on.
+-- request can have: the supervisory controller on its own connection or a CPort without a firmware
+-- device, or a firmware device, whose download begins or goes on.
 pub data IsAskedBy (m : Moment) (a : Point) (c : Connection) (d : Draft) : Type 0 where
   by_host : (q : Asking) (rest : List Act) → a.pending ≡ Act.Ask q ∷ rest
       → d ≡ host_draft q a.state.now → a.asked ≡ None → IsAskedBy m a c d
-  by_far : IsFarAsking m c d → (c.wired ≡ true) × (d.kind < 128) → IsUnloaded a.state c
-      → IsAskedBy m a c d
+  by_far : IsFarAsking m c d → (c.wired ≡ true) × (d.kind < 128)
+      → (d.connection ≡ 1) ⊎ IsUnloaded a.state c → IsAskedBy m a c d
   by_loader : (x : Going) → IsGoing m a.state c d x → IsFarAsking m c d
       → (c.wired ≡ true) × (d.kind < 128) → IsAskedBy m a c d
 

@@ -16,7 +16,8 @@ use Rattle.gb_laws.proofs.enumerations.AskedWaits.{AsksIn, WaitsFewer, same-wait
 use Rattle.gb_laws.proofs.points.PointParts.{Basis, Hand, Point, loose_hand, loose_held, resting}
 use Rattle.gb_laws.proofs.points.Points.{Change, IsAskedBy, IsElse, IsPlain, acts_asked}
 use Rattle.gb_laws.proofs.points.Points.{acts_failed}
-use Rattle.gb_laws.proofs.points.Points.{acts_shut, answers, asks, by_far, by_host, changed, drops}
+use Rattle.gb_laws.proofs.points.Points.{acts_shut, answers, asks, by_far, by_host, by_loader}
+use Rattle.gb_laws.proofs.points.Points.{changed, drops}
 use Rattle.gb_laws.proofs.points.Points.{forgets, gives_up, holds, names, others, recalls, replies}
 use Rattle.gb_laws.proofs.points.Points.{takes}
 use Rattle.gb_laws.proofs.points.Points.{takes_held, turns, unwires}
@@ -66,7 +67,11 @@ module _ (m : Moment) (i : ℕ) (before : Basis (resting m.told m.before))
           quiet-asked i a q rest label basis links there pending free none
           (ap (λ (x : Draft). record a.state { bus = sent x label a.state.bus }) draft) refl refl
           refl h
-      by (by_far far on) =
+      by (by_far far on unloaded) =
+          quiet-still (view-far m i a d c label
+          basis links there told live refl refl refl refl far) (same-waits a.state.host) refl
+          (λ q j. j) h
+      by (by_loader x going far on) =
           quiet-still (view-far m i a d c label
           basis links there told live refl refl refl refl far) (same-waits a.state.host) refl
           (λ q j. j) h
@@ -153,7 +158,7 @@ module _ (m : Moment) (i : ℕ) (before : Basis (resting m.told m.before))
       (subst (ArePending a.state.host) is.0 links.pending).0.1 h
   quiet-kept a (acts_failed q rest is quiet) basis links there told h =
       quiet-failed i a q rest basis is refl refl refl refl h
-  quiet-kept a (others booted marks ports modules same) basis links there told h = by same
+  quiet-kept a (others booted marks ports modules same) basis links there told h = by same.0
     where
       b : Point
       b = changed m a (others booted marks ports modules same)

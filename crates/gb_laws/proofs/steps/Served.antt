@@ -70,4 +70,5 @@ served k kind payload h = by (link_of k h)
     by (Some l) =
         served-if h (l.protocol == 0x02) (served-gpio h l (read_gpio_ask_of_module kind payload))
         (served-if h (l.protocol == 0x04)
-        (served-uart h l (read_uart_ask_of_module kind payload)) (refused h _))
+        (served-uart h l (read_uart_ask_of_module kind payload))
+        (served-if h (l.protocol == 0x17) (plainly tt refl) (refused h _)))

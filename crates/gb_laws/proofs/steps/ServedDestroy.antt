@@ -12,19 +12,21 @@ use Rattle.gb_machine.proofs.Steps.{deliver-allowed, delivers-serves, step-deliv
 use Rattle.gb_machine.proofs.Opened.{machine_opened}
 use Rattle.gb_machine.specs.Bus.{Ask, Bus, Connection, Item, Request, end_of, request_of}
 use Rattle.gb_machine.specs.Incoming.{Incoming, incoming, reply_item}
-use Rattle.gb_machine.specs.Responding.{Response, destroys, far_response, replies, responds}
-use Rattle.gb_machine.specs.Responding.{responds_plainly, responds_with, serves, serves_oneway}
-use Rattle.gb_machine.specs.Responding.{svc_decided, svc_stepped}
+use Rattle.gb_machine.specs.Responding.{Response, destroys, disconnects, far_response, replies}
+use Rattle.gb_machine.specs.Responding.{responds, responds_plainly, responds_with, serves}
+use Rattle.gb_machine.specs.Responding.{serves_oneway, svc_decided, svc_stepped}
 use Rattle.gb_machine.specs.Serving.{nonexistent, plainly, success}
 use Rattle.gb_machine.specs.SvcTable.{Destroy, svc_read, svc_refuses, svc_stays, svc_step}
 use Rattle.gb_machine.specs.{Actions.◌▸◌, Arriving.is_held, Arriving.takes, Delivery.popped}
 use Rattle.gb_machine.specs.{Delivery.replied, Events.step, Members.IsIn, Modules.far_takes}
-use Rattle.gb_machine.specs.{Refusals.is_end_unplugged, Refusals.refusal, Runs.Moment, Runs.after}
-use Rattle.gb_machine.specs.{State.Port, State.State, Wires.unwires, Wiring.joining, Wiring.unwired}
+use Rattle.gb_machine.specs.{Refusals.is_end_unplugged, Refusals.refusal, Requests.open_on}
+use Rattle.gb_machine.specs.{Runs.Moment, Runs.after, State.Port, State.State, Wires.with_unwired}
+use Rattle.gb_machine.specs.{Wiring.joining, Wiring.unwired}
 use Rattle.gb_invariants.proofs.Awaiting.{none-some, not-both, same-some}
 use Rattle.gb_invariants.proofs.{Found.any-in, Outcomes.same-number}
-use Rattle.gb_laws.proofs.{links.LinkFrom.Linked, points.Places.place-is, svc.StillWaiting.IsFront}
-use Rattle.gb_laws.proofs.{svc.SvcKinds.svc-kind, basis.Unheld.IsUnheld}
+use Rattle.gb_laws.proofs.{basis.Unheld.IsUnheld, links.LinkFrom.Linked, points.Places.place-is}
+use Rattle.gb_laws.proofs.{steps.LoadFailures.loads-fail, svc.StillWaiting.IsFront}
+use Rattle.gb_laws.proofs.{svc.SvcKinds.svc-kind}
 
 -- ---- the table
 
@@ -69,13 +71,21 @@ destroyed-by x q None k i1 a i c s on twoway e = uncut (reply_item q (destroys N
 destroyed-by x q (Some y) k i1 a i c s on twoway e = by y.wired refl
   where
     answered : Bool → Response
-    answered t = cond t (responds_with (plainly success) (unwires y.number))
+    answered t = cond t (responds_with (plainly success) (disconnects y.number))
         (responds_plainly nonexistent)
+
+    -- what is done behind the reply leaves the bus but for the wire
+    unwired-bus : (w : State) → (disconnects y.number w).state.bus ≡ unwired y.number w.bus
+    unwired-bus w = ap (λ (t : State). t.bus)
+        (loads-fail (open_on y.number side.Far w.bus) (with_unwired y.number w)).state
 
     by : (t : Bool) → y.wired ≡ t
         → IsDestroyed k i1 a i c s.bus (responds side.Far x q (answered t) s).state.bus
     by true f = cut (reply_item q (plainly success)) y e
         (ap (λ (t : State). t.bus) (responded x q (answered true) s twoway)
+        ∙ unwired-bus (record s {
+          bus = replied x.number side.Ap (reply_item q (plainly success)) s.bus;
+        })
         ∙ ap (λ n. unwired y.number (replied n side.Ap (reply_item q (plainly success)) s.bus)) on)
     by false f = uncut (reply_item q (plainly nonexistent))
         (λ one z g. ap (λ (w : Connection). w.wired) (same-some z y (sym g ∙ e)) ∙ f)

@@ -1,8 +1,10 @@
 -- A law of points goes over the actions of the machine: the combinators, and asking.
 use Rattle.std.proofs.Common.{Bool, List, None, Option, Some, ap, append-nil, append_assoc, false}
-use Rattle.std.proofs.Common.{refl, subst, sym, true, ℕ, [], ◌++◌, ◌+◌, ◌<◌, ◌∙◌, ◌∷◌, ◌≡◌}
+use Rattle.std.proofs.Common.{inl, inr, refl, subst, sym, true, ℕ, [], ◌++◌, ◌+◌, ◌<◌, ◌∙◌, ◌∷◌}
+use Rattle.std.proofs.Common.{◌≡◌, ◌⊎◌}
 use Rattle.std.specs.Prelude.{option_map, ◌==◌}
 use Rattle.gb_base.specs.declared.bridge.Reading.TheVariants as reading
+use Rattle.gb_base.specs.declared.end.End.{End}
 use Rattle.gb_base.specs.declared.end.End.TheVariants as end
 use Rattle.gb_base.specs.declared.end.Side.TheVariants as side
 use Rattle.gb_base.specs.declared.entry.Entry.{Entry}
@@ -20,65 +22,72 @@ use Rattle.gb_machine.specs.{Turns.Act}
 use Rattle.gb_invariants.proofs.{Awaiting.none-some, Awaiting.same-some, Found.find-changed}
 use Rattle.gb_invariants.proofs.{ItemChanges.asked_on-self, Labels.asked_on, Labels.asked_on-number}
 use Rattle.gb_laws.proofs.points.PointParts.{AreSilent, Hand, Wires, is_silent, sent_told}
-use Rattle.gb_laws.proofs.points.Points.{IsFarAsking, asks, by_far, by_module, tells}
-use Rattle.gb_laws.proofs.{points.LowTypes.AreLow, steps.StepActLaws.ActLaw}
+use Rattle.gb_laws.proofs.points.Points.{IsFarAsking, IsUnloaded, asks, by_far, by_module}
+use Rattle.gb_laws.proofs.points.Points.{loader_in, tells}
+use Rattle.gb_laws.proofs.steps.LoaderStays.{AsksUnloaded}
+use Rattle.gb_laws.proofs.{points.LowTypes.AreLow, steps.ServedOn.HasPeer, steps.StepActLaws.ActLaw}
 
--- a live connection is to a module
-abbrev pub IsToModule : ℕ → Bus → Type 0
-IsToModule k b =
-    (c : Connection) → connection_of k b ≡ Some c → (i : ℕ) × (p : ℕ) × (c.peer ≡ end.Module i p)
-
--- it is so still once a request was made there
-to-sent : (d : Draft) (label : ℕ) (b : Bus) → IsToModule d.connection b
-    → IsToModule d.connection (sent d label b)
-to-sent d label b to c e = by (connection_of d.connection b) refl
+-- the far end of a connection stays where a request was made there
+peer-sent : (d : Draft) (label : ℕ) (e : End) (b : Bus) → HasPeer d.connection e b
+    → HasPeer d.connection e (sent d label b)
+peer-sent d label e b to c is = by (connection_of d.connection b) refl
   where
-    by : (o : Option Connection) → connection_of d.connection b ≡ o → (i : ℕ) × (p : ℕ)
-        × (c.peer ≡ end.Module i p)
-    by None f = absurd (none-some (sym (changed None f) ∙ e))
-      where
-        changed : (o : Option Connection) → connection_of d.connection b ≡ o
-            → connection_of d.connection (sent d label b) ≡ option_map (asked_on d label b) o
-        changed o f = find-changed (has_number d.connection) (asked_on d label b) b.connections
-            (λ x. ap (λ n. n == d.connection) (asked_on-number d label b x))
-            ∙ ap (option_map (asked_on d label b)) f
-    by (Some x) f =
-        let p = to x f in
-        let is = same-some (asked_on d label b x) c
-        (sym (find-changed (has_number d.connection) (asked_on d label b) b.connections
+    changed : connection_of d.connection (sent d label b)
+        ≡ option_map (asked_on d label b) (connection_of d.connection b)
+    changed = find-changed (has_number d.connection) (asked_on d label b) b.connections
         (λ x. ap (λ n. n == d.connection) (asked_on-number d label b x))
-        ∙ ap (option_map (asked_on d label b)) f) ∙ e) in (
-          p.0,
-          p.1,
-          sym (ap (λ (y : Connection). y.peer) is) ∙ (asked_on-self d label b x).peer ∙ p.2,
-        )
 
-to-asked : (k : ℕ) (x : OwnAsk) (s : State) → IsToModule k s.bus
-    → IsToModule k (far_asks k x s).state.bus
+    by : (o : Option Connection) → connection_of d.connection b ≡ o → c.peer ≡ e
+    by None f = absurd (none-some (sym (changed ∙ ap (option_map (asked_on d label b)) f) ∙ is))
+    by (Some x) f =
+        let same = same-some (asked_on d label b x) c
+        (sym (changed ∙ ap (option_map (asked_on d label b)) f) ∙ is) in
+        sym (ap (λ (y : Connection). y.peer) same) ∙ (asked_on-self d label b x).peer ∙ to x f
+
+-- so it does where a far side asks, and modules stay
+pub far-asked : (k : ℕ) (x : OwnAsk) (e : End) (s : State) → HasPeer k e s.bus
+    → HasPeer k e (far_asks k x s).state.bus × ((far_asks k x s).state.modules ≡ s.modules)
 unfolding machine_opened
-to-asked k x s to = wired (is_wired (connection_of k s.bus))
+far-asked k x e s to = wired (is_wired (connection_of k s.bus))
   where
     d : Draft
     d = draft k side.Far x.kind x.payload (s.now + default_timeout) x.oneway
 
-    oneway : (t : Bool) (n : ℕ) (w : State) → IsToModule k w.bus
-        → IsToModule k (when t (tell (entry.Ended n outcome.Sent reading.Nothing)) w).state.bus
+    Stay : State → Type 0
+    Stay w = HasPeer k e w.bus × (w.modules ≡ s.modules)
+
+    oneway : (t : Bool) (n : ℕ) (w : State) → Stay w
+        → Stay (when t (tell (entry.Ended n outcome.Sent reading.Nothing)) w).state
     oneway true n w h = h
     oneway false n w h = h
 
-    by : (o : Option Connection) (l : Option ℕ) → IsToModule k (given o (λ c. given l
+    by : (o : Option Connection) (l : Option ℕ) → Stay (given o (λ c. given l
         (λ label. asks_with (draft k side.Far x.kind x.payload (s.now + default_timeout) x.oneway) c
-        label)) s).state.bus
-    by None l = to
-    by (Some c) None = to
+        label)) s).state
+    by None l = (to, refl)
+    by (Some c) None = (to, refl)
     by (Some c) (Some label) = oneway x.oneway (next_number s.bus)
-        (record s { bus = sent d label s.bus }) (to-sent d label s.bus to)
+        (record s { bus = sent d label s.bus }) (peer-sent d label e s.bus to, refl)
 
-    wired : (t : Bool) → IsToModule k
+    wired : (t : Bool) → Stay
         (when t (asking (draft k side.Far x.kind x.payload (s.now + default_timeout) x.oneway))
-        s).state.bus
+        s).state
     wired true = by (connection_of k s.bus) (label_for d s.bus)
-    wired false = to
+    wired false = (to, refl)
+
+-- a CPort has no firmware device, nor has that at the far end of a connection to it
+unloaded-at : (i p : ℕ) (c : Connection) (s : State) → c.peer ≡ end.Module i p
+    → loader_in i p s.modules ≡ None → IsUnloaded s c
+unloaded-at i p c s peer none j q other =
+    let same = sym other ∙ peer in
+    ap (λ n. loader_in n q s.modules) (intf same) ∙ ap (λ n. loader_in i n s.modules) (cport same)
+    ∙ none
+  where
+    intf : end.Module j q ≡ end.Module i p → j ≡ i
+    intf e = cc
+
+    cport : end.Module j q ≡ end.Module i p → q ≡ p
+    cport e = cc
 
 module _ (m : Moment) (law : ActLaw m) where
   -- the law at a point
@@ -146,8 +155,8 @@ module _ (m : Moment) (law : ActLaw m) where
 
   pub goes-asks : (acts : List Act) (wires : Wires) (d : Draft) (s : State)
       → ((c : Connection) → connection_of d.connection s.bus ≡ Some c
-      → IsFarAsking m c d × (c.wired ≡ true)) → d.kind < 128
-      → Stays None acts wires (asking d) s
+      → IsFarAsking m c d × (c.wired ≡ true) × ((d.connection ≡ 1) ⊎ IsUnloaded s c))
+      → d.kind < 128 → Stays None acts wires (asking d) s
   unfolding machine_opened
   goes-asks acts wires d s who low told at =
       by (connection_of d.connection s.bus) refl (label_for d s.bus) refl
@@ -169,25 +178,33 @@ module _ (m : Moment) (law : ActLaw m) where
       by (Some c) e (Some label) f =
           oneway d.oneway (record s { bus = sent d label s.bus }) (asked d c label s.bus)
           (next_number s.bus)
-          (law.kept _ (asks d c label refl e f (by_far (who c e).0 ((who c e).1, low))) tt at)
+          (law.kept _ (asks d c label refl e f
+          (by_far (who c e).0 ((who c e).1, low) (who c e).2)) tt at)
 
   pub goes-far_asks : (acts : List Act) (wires : Wires) (k : ℕ) (own : OwnAsk) (s : State)
       → ((c : Connection) → connection_of k s.bus ≡ Some c → IsFarAsking m c
-      (draft k side.Far own.kind own.payload (s.now + default_timeout) own.oneway))
-      → own.kind < 128 → Stays None acts wires (far_asks k own) s
+      (draft k side.Far own.kind own.payload (s.now + default_timeout) own.oneway)
+      × ((k ≡ 1) ⊎ IsUnloaded s c)) → own.kind < 128 → Stays None acts wires (far_asks k own) s
   unfolding machine_opened
   goes-far_asks acts wires k own s who low =
       goes-when None acts wires (is_wired (connection_of k s.bus))
       (asking (draft k side.Far own.kind own.payload (s.now + default_timeout) own.oneway)) s
       (λ e. goes-asks acts wires (draft k side.Far own.kind own.payload (s.now + default_timeout)
-      own.oneway) s (λ c f. (who c f, sym (ap is_wired f) ∙ e)) low)
+      own.oneway) s (λ c f. ((who c f).0, sym (ap is_wired f) ∙ e, (who c f).1)) low)
 
-  -- a module's requests, one after another
-  pub goes-far_asks_all : (acts : List Act) (wires : Wires) (k : ℕ) (own : List OwnAsk) (s : State)
-      → IsToModule k s.bus → AreLow own → Stays None acts wires (far_asks_all k own) s
+  -- a module's requests, one after another, on a connection to it
+  pub goes-far_asks_all : (acts : List Act) (wires : Wires) (i p k : ℕ) (own : List OwnAsk)
+      (s : State) → HasPeer k (end.Module i p) s.bus → AreLow own
+      → AsksUnloaded own (loader_in i p s.modules) → Stays None acts wires (far_asks_all k own) s
   unfolding machine_opened
-  goes-far_asks_all acts wires k [] s to low = goes-nothing None acts wires s
-  goes-far_asks_all acts wires k (x ∷ xs) s to low =
+  goes-far_asks_all acts wires i p k [] s to low unloaded = goes-nothing None acts wires s
+  goes-far_asks_all acts wires i p k (x ∷ xs) s to low (inl empty) = absurd cc
+  goes-far_asks_all acts wires i p k (x ∷ xs) s to low (inr none) =
+      let after = far-asked k x (end.Module i p) s to in
       goes-▸ (far_asks k x) (each xs (far_asks k))
-      (goes-far_asks acts wires k x s (λ c e. let p = to c e in by_module p.0 p.1 p.2 refl) low.0)
-      (goes-far_asks_all acts wires k xs (far_asks k x s).state (to-asked k x s to) low.1)
+      (goes-far_asks acts wires k x s (λ c e. (
+        by_module i p (to c e) refl,
+        inr (unloaded-at i p c s (to c e) none),
+      )) low.0)
+      (goes-far_asks_all acts wires i p k xs (far_asks k x s).state after.0 low.1
+      (inr (ap (loader_in i p) after.1 ∙ none)))

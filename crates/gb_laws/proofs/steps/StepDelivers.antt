@@ -29,12 +29,12 @@ use Rattle.gb_invariants.specs.Facts.{is_numbered}
 use Rattle.gb_laws.proofs.steps.Delivered.{IsTaken, answered, delivered}
 use Rattle.gb_laws.proofs.points.PointParts.{Hand, Untouched, is_silent}
 use Rattle.gb_laws.proofs.points.Points.{Law, takes, takes_held}
+use Rattle.gb_laws.proofs.steps.Heard.{IsDelivered}
 use Rattle.gb_laws.proofs.steps.StepMessages.{ends-asked, ends-by_label, ends-reply, ends-responds}
 use Rattle.gb_laws.proofs.steps.StepMessages.{ends-told, ends-untold, hand_of}
-use Rattle.gb_laws.proofs.{steps.DeliveredHands.request-popped, points.Places.module-far}
-use Rattle.gb_laws.proofs.{points.Places.place-is}
-use Rattle.gb_laws.proofs.{steps.ServedOn.IsAsBefore, steps.StepActLaws.acting}
-use Rattle.gb_laws.proofs.{steps.StepActions.At}
+use Rattle.gb_laws.proofs.{points.Places.module-far, points.Places.place-is}
+use Rattle.gb_laws.proofs.{steps.DeliveredHands.request-popped, steps.ServedOn.IsAsBefore}
+use Rattle.gb_laws.proofs.{steps.StepActLaws.acting, steps.StepActions.At}
 use Rattle.gb_laws.proofs.{steps.StepActions.goes-nothing, steps.StepSvcServes.Ends}
 use Rattle.gb_laws.proofs.{steps.StepSvcServes.ends-going}
 
@@ -58,18 +58,19 @@ module _ (m : Moment) (law : Law m) where
           absurd (not-both (is_numbered h.item) (a.numbered (still.self.clean ∙ e)) raw)
 
   ends-raw : (c : Connection) (at : Side) (bytes : List ℕ) (s : State) → IsAsBefore m s
+      → IsDelivered m s (hand_of m law c at (Raw bytes))
       → ((q : Incoming) → request_in (Raw bytes) s.bus ≡ Some q → IsTaken m s c at q)
       → c.clean ≡ false → Ends m law (Some (hand_of m law c at (Raw bytes)))
       (raw_taken at c (Raw bytes) (raw_message bytes)) s
   unfolding machine_opened
-  ends-raw c at bytes s same taken dirty = by (raw_message bytes) refl
+  ends-raw c at bytes s same is taken dirty = by (raw_message bytes) refl
     where
       message : (x : Message) → raw_message bytes ≡ Ok x → (t : Bool) → is_request x ≡ t
           → Ends m law (Some (hand_of m law c at (Raw bytes)))
           (cond t (asked_at at c (Raw bytes) (incoming_raw x))
           (arriving.by_label at c x.id x.result x.payload)) s
       message x e false f =
-          ends-by_label m law c at (Raw bytes) x.id x.result x.payload s same.1 dirty
+          ends-by_label m law c at (Raw bytes) x.id x.result x.payload s is dirty
       message x e true f =
           let made : request_in (Raw bytes) s.bus ≡ Some (incoming_raw x) =
           ap raw_request e ∙ ap (λ t. cond t (Some (incoming_raw x)) None) f in
@@ -82,10 +83,11 @@ module _ (m : Moment) (law : Law m) where
       by (Ok x) e = message x e (is_request x) refl
 
   ends-arrives : (c : Connection) (at : Side) (item : Item) (s : State) → IsAsBefore m s
+      → IsDelivered m s (hand_of m law c at item)
       → ((q : Incoming) → request_in item s.bus ≡ Some q → IsTaken m s c at q)
       → Ends m law (Some (hand_of m law c at item)) (arrives at c item) s
   unfolding machine_opened
-  ends-arrives c at (Ask n) s same taken = λ told now. by (request_of n s.bus) refl told now
+  ends-arrives c at (Ask n) s same is taken = λ told now. by (request_of n s.bus) refl told now
     where
       by : (o : Option Request) → request_of n s.bus ≡ o
           → Ends m law (Some (hand_of m law c at (Ask n)))
@@ -95,12 +97,12 @@ module _ (m : Moment) (law : Law m) where
           let made : request_in (Ask n) s.bus ≡ Some (incoming n r) = ap (option_map (incoming n)) e
           in
           ends-asked m law c at (Ask n) s same made (taken (incoming n r) made)
-  ends-arrives c at (Reply n result payload) s same taken =
-      ends-reply m law c at n result payload s same.1
-  ends-arrives c at (Raw bytes) s same taken = λ told now. ends-raw c at bytes s same taken
+  ends-arrives c at (Reply n result payload) s same is taken =
+      ends-reply m law c at n result payload s is
+  ends-arrives c at (Raw bytes) s same is taken = λ told now. ends-raw c at bytes s same is taken
       (unclean-hand (hand_of m law c at (Raw bytes)) told s now refl) told now
-  ends-arrives c at (RawReply label kind result payload) s same taken = λ told now.
-      ends-by_label m law c at (RawReply label kind result payload) label result payload s same.1
+  ends-arrives c at (RawReply label kind result payload) s same is taken = λ told now.
+      ends-by_label m law c at (RawReply label kind result payload) label result payload s is
       (unclean-hand (hand_of m law c at (RawReply label kind result payload)) told s now refl) told
       now
 
@@ -111,14 +113,15 @@ module _ (m : Moment) (law : Law m) where
   quiet-dropped (RawReply label kind result payload) = refl
 
   ends-handles : (c : Connection) (at : Side) (item : Item) {s : State} → IsAsBefore m s
+      → IsDelivered m s (hand_of m law c at item)
       → ((q : Incoming) → request_in item s.bus ≡ Some q → IsTaken m s c at q)
       → Ends m law (Some (hand_of m law c at item)) (handles at c item) s
   unfolding machine_opened
-  ends-handles c at item {s} same taken = by (arriving.takes at c s)
+  ends-handles c at item {s} same is taken = by (arriving.takes at c s)
     where
       by : (t : Bool) → Ends m law (Some (hand_of m law c at item))
           (cond t (arrives at c item) (tell (dropped item))) s
-      by true = ends-arrives c at item s same taken
+      by true = ends-arrives c at item s same is taken
       by false = ends-told m law (hand_of m law c at item) (dropped item) s (quiet-dropped item)
 
   -- ---- deliveries
@@ -136,6 +139,7 @@ module _ (m : Moment) (law : Law m) where
       (record m.before { bus = popped p.connection.number p.side m.before.bus })
   ends-taken at p item is e f =
       ends-handles p.connection p.side item (refl, refl)
+      (record { at = at; event = is; named = e; front = f; from = refl })
       (λ q made. delivered at p item q is e f refl
       (sym (request-popped item p.connection.number p.side m.before.bus) ∙ made) refl)
 

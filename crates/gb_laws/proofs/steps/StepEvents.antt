@@ -15,14 +15,15 @@ use Rattle.gb_base.specs.declared.outcome.Outcome.TheVariants as outcome
 use Rattle.gb_base.specs.declared.peers.Link.{Link}
 use Rattle.gb_base.specs.declared.refusal.Refusal.TheVariants as why
 use Rattle.gb_formats.specs.{Bridges.BridgeFault, Bridges.bridge_answer, Devices.Stir}
-use Rattle.gb_formats.specs.{Grammar.default_timeout, Module.Module, ModuleSteps.module_stir}
-use Rattle.gb_formats.specs.{Results.Stirred}
+use Rattle.gb_formats.specs.{Grammar.default_timeout, Images.image_of, Module.Module}
+use Rattle.gb_formats.specs.{ModuleLoads.loader_at, ModuleSteps.module_stir, Results.Stirred}
+use Rattle.gb_formats.specs.{Results.success}
 use Rattle.gb_machine.proofs.{Conditions.AreUnmet, Conditions.free, Opened.machine_opened}
 use Rattle.gb_machine.proofs.{Options.none-of}
 use Rattle.gb_machine.specs.Actions.{by_state, change, given, on_bus, on_host, tell, ◌▸◌}
 use Rattle.gb_machine.specs.Bus.{Connection, Place, Request, connection_of, is_open, next_number}
 use Rattle.gb_machine.specs.Bus.{outcome_of, request_of}
-use Rattle.gb_machine.specs.Host.{is_link, link_at, with_link}
+use Rattle.gb_machine.specs.Host.{is_link, link_at, with_given, with_link}
 use Rattle.gb_machine.specs.HostRefusals.{bridge_conditions, is_ending, is_kept, link_conditions}
 use Rattle.gb_machine.specs.Labels.{cyclic_label, next_label}
 use Rattle.gb_machine.specs.LineActions.{ap_draft, bridge_sent, bridges, copies, holds, injects}
@@ -38,16 +39,17 @@ use Rattle.gb_machine.specs.{Show.shown, State.State}
 use Rattle.gb_invariants.proofs.{Awaiting.is-open, Awaiting.not-both, Lists.at_first-back}
 use Rattle.gb_invariants.proofs.{Lists.found-in}
 use Rattle.gb_laws.proofs.points.PointParts.{AreSilent, IsGivenUpFor, Untouched}
-use Rattle.gb_laws.proofs.points.Points.{IsBridge, IsPlain, Law, as_before, binds}
-use Rattle.gb_laws.proofs.points.Points.{gives_up as giving_up}
-use Rattle.gb_laws.proofs.points.Points.{injects as injecting, names, others, spends}
+use Rattle.gb_laws.proofs.points.Points.{IsBridge, IsPlain, Law, as_before, binds, gives}
+use Rattle.gb_laws.proofs.points.Points.{gives_up as giving_up, injects as injecting, loader_in}
+use Rattle.gb_laws.proofs.points.Points.{names, others, spends}
 use Rattle.gb_laws.proofs.svc.StayPlugged.{module-plugs, open-takes, place-module, same-plugs}
+use Rattle.gb_laws.proofs.steps.LoaderStays.{keeps-module, module-there, same-loaders, stir-keeps}
 use Rattle.gb_laws.proofs.steps.StepActions.{At, goes-far_asks_all, goes-tell_all}
 use Rattle.gb_laws.proofs.steps.StepPlugs.{Rests, rests-nothing, rests-▸}
 use Rattle.gb_laws.proofs.points.LowTypes.{AreLow, bridge-low, stir-low}
-use Rattle.gb_laws.proofs.{points.Naming.made-named}
-use Rattle.gb_laws.proofs.{points.Places.place-marked, steps.StepActLaws.acting}
-use Rattle.gb_laws.proofs.steps.StepIdles.{goes-follows}
+use Rattle.gb_laws.proofs.{points.Naming.made-named, points.Places.place-marked}
+use Rattle.gb_laws.proofs.{steps.StepActLaws.acting}
+use Rattle.gb_laws.proofs.steps.StepLoads.{goes-follows}
 
 module _ (m : Moment) (law : Law m) where
   -- ---- requests of lines
@@ -160,18 +162,19 @@ module _ (m : Moment) (law : Law m) where
   unfolding machine_opened
   rests-stirs i c stir s = at_module (module_at i s.modules) refl
     where
-      placed : (t : Stirred Module) → AreLow t.asks → (w : State) (o : Option Place)
-          → module_place i c w ≡ o
+      placed : (t : Stirred Module) → AreLow t.asks → (w : State)
+          → loader_in i c w.modules ≡ None → (o : Option Place) → module_place i c w ≡ o
           → Rests m law (given o (λ p. far_asks_all p.connection.number t.asks)) w
-      placed t low w None e = rests-nothing m law w
-      placed t low w (Some p) e = λ told at.
-          goes-far_asks_all m (acting m law) [] Untouched p.connection.number t.asks w
-          (place-module i c w.bus p (law.basis _ at).bus.numbers.rise e) low told at
+      placed t low w none None e = rests-nothing m law w
+      placed t low w none (Some p) e = λ told at.
+          goes-far_asks_all m (acting m law) [] Untouched i c p.connection.number t.asks w
+          (place-module i c w.bus p (law.basis _ at).bus.numbers.rise e) low (inr none) told at
 
-      stirred_by : (x : Module) (o : Option (Stirred Module)) → module_stir x c stir ≡ o
-          → Rests m law (given o (stirred i c)) s
-      stirred_by x None is = rests-nothing m law s
-      stirred_by x (Some t) is =
+      stirred_by : (x : Module) → module_at i s.modules ≡ Some x → (o : Option (Stirred Module))
+          → module_stir x c stir ≡ o → Rests m law (given o (stirred i c)) s
+      stirred_by x there None is = rests-nothing m law s
+      stirred_by x there (Some t) is =
+          let keeps = stir-keeps x c stir t is in
           rests-▸ m law (change (λ w. record w { modules = with_module i t.after w.modules }))
           (by_state (λ w. given (module_place i c w)
           (λ p. far_asks_all p.connection.number t.asks))) s
@@ -181,14 +184,16 @@ module _ (m : Moment) (law : Law m) where
             as_before refl,
             record { hand = refl; pending = refl; asked = refl },
             λ k n. inl n,
-          ))) at)
+          ), keeps-module i t.after x s.modules there keeps.0)) at)
           (placed t (stir-low x c stir t is)
-          (record s { modules = with_module i t.after s.modules }) (module_place i c s) refl)
+          (record s { modules = with_module i t.after s.modules })
+          (ap (option_and_then (λ y. loader_at y c)) (module-there i t.after x s.modules there)
+          ∙ keeps.1) (module_place i c s) refl)
 
       at_module : (o : Option Module) → module_at i s.modules ≡ o
           → Rests m law (given o (λ x. given (module_stir x c stir) (stirred i c))) s
       at_module None e = rests-nothing m law s
-      at_module (Some x) e = stirred_by x (module_stir x c stir) refl
+      at_module (Some x) e = stirred_by x e (module_stir x c stir) refl
 
   pub rests-holds : (i c : ℕ) (s : State) → Rests m law (holds i c) s
   unfolding machine_opened
@@ -203,7 +208,16 @@ module _ (m : Moment) (law : Law m) where
             as_before refl,
             record { hand = refl; pending = refl; asked = refl },
             place-marked i c s p e,
-          ))) at
+          ), same-loaders s.modules)) at
+
+  -- an image is given
+  pub rests-gives : (tag bytes : List ℕ) → m.event ≡ event.Image tag bytes
+      → refusal m.before (event.Image tag bytes) ≡ None
+      → Rests m law (on_host (with_given tag bytes)) m.before
+  unfolding machine_opened
+  rests-gives tag bytes is allowed told at =
+      law.kept _ (gives tag bytes (refl, is) (none-of (image_of tag m.before.host.images)
+      (free m.before (event.Image tag bytes) allowed).0)) at
 
   pub rests-injects : (i c : ℕ) (bytes : List ℕ) (s : State) → Rests m law (injects i c bytes) s
   unfolding machine_opened
@@ -238,9 +252,9 @@ module _ (m : Moment) (law : Law m) where
   rests-gives_up n how s unended cause =
       rests-▸ m law (on_bus (gave_up n how) ▸ tell (entry.Ended n how reading.Nothing))
       (follows n how) s (λ told at. law.kept _ (giving_up n how refl unended cause) at)
-      (goes-follows m (acting m law) (λ a h. (law.basis a h).drains) n how
-      (record s { bus = gave_up n how s.bus })
-      (λ r p e. absurd (unanswered s n how r p e cause)))
+      (goes-follows m law n how (record s { bus = gave_up n how s.bus })
+      (λ r p e. absurd (unanswered s n how r p e cause))
+      (λ p e. absurd (unanswered s n how success p e cause)))
 
   pub rests-cancels : (name : Name) → m.event ≡ event.Cancel name
       → refusal m.before (event.Cancel name) ≡ None → Rests m law (cancels name) m.before

@@ -10,15 +10,14 @@ use Rattle.gb_base.specs.declared.peers.Link.{Link}
 use Rattle.gb_machine.proofs.Opened.{machine_opened}
 use Rattle.gb_machine.specs.Actions.{Action, by_state, given}
 use Rattle.gb_machine.specs.Bus.{Request, request_of}
-use Rattle.gb_machine.specs.HostActs.{drains, follows, idles, idles_behind, notices}
+use Rattle.gb_machine.specs.HostActs.{drains, host_follows, idles, idles_behind, notices}
 use Rattle.gb_machine.specs.Requests.{is_idle, same_side}
 use Rattle.gb_machine.specs.{Host.link_at, Lists.first, Refusals.refusal, Runs.Moment, State.State}
 use Rattle.gb_invariants.proofs.HostChanges.{at_event}
 use Rattle.gb_laws.proofs.steps.StepActions.{Stays, goes-nothing, goes-when, goes-▸}
 use Rattle.gb_laws.proofs.{links.DrainingKept.FirstDrainsAt, points.PointParts.Point}
-use Rattle.gb_laws.proofs.{points.PointParts.Untouched}
-use Rattle.gb_laws.proofs.{points.Points.IsOver, steps.StepActLaws.ActLaw}
-use Rattle.gb_laws.proofs.{steps.StepActs.goes-notice}
+use Rattle.gb_laws.proofs.{points.PointParts.Untouched, points.Points.IsOver}
+use Rattle.gb_laws.proofs.{steps.StepActLaws.ActLaw, steps.StepActs.goes-notice}
 
 none-first : (ns : List ℕ) → is_none (first ns) ≡ true → ns ≡ []
 none-first [] e = refl
@@ -44,11 +43,11 @@ module _ (m : Moment) (law : ActLaw m) (drain : (a : Point) → law.holds a → 
       goes-when m law None [] Untouched (same_side side.Ap r.side) (idles r.connection) s
       (λ e. goes-idles r.connection s)
 
-  -- a request ended
-  pub goes-follows : (n : ℕ) (how : Outcome) (s : State)
-      → IsOver m (at_event (host_event.Ended n how)) s.bus → Idly (follows n how) s
+  -- a request ended: what the application processor does
+  pub goes-host_follows : (n : ℕ) (how : Outcome) (s : State)
+      → IsOver m (at_event (host_event.Ended n how)) s.bus → Idly (host_follows n how) s
   unfolding machine_opened
-  goes-follows n how s over =
+  goes-host_follows n how s over =
       goes-▸ m law (notices (host_event.Ended n how)) (given (request_of n s.bus) idles_behind)
       (goes-notice m law (at_event (host_event.Ended n how)) s over tt)
       (goes-idles_behind (request_of n s.bus) (notices (host_event.Ended n how) s).state)

@@ -15,24 +15,23 @@ use Rattle.gb_machine.specs.Incoming.{Incoming, reply_item, request_in}
 use Rattle.gb_machine.specs.Responding.{Response, replies as replying, response_at}
 use Rattle.gb_machine.specs.Responding.{serves as serving, serves_oneway}
 use Rattle.gb_machine.specs.{Delivery.ended, Delivery.forgotten, HostActs.follows}
-use Rattle.gb_machine.specs.{Requests.given_up_with, Requests.open_with, Runs.Moment}
-use Rattle.gb_machine.specs.{Serving.success, State.State}
+use Rattle.gb_machine.specs.{HostServing.host_serves, Requests.given_up_with, Requests.open_with}
+use Rattle.gb_machine.specs.{Runs.Moment, Serving.success, State.State}
 use Rattle.gb_machine.specs.Arriving as arriving
 use Rattle.gb_machine.specs.Delivery as delivery
 use Rattle.gb_invariants.proofs.{Awaiting.not-both, Numbers.found-number, Numbers.same-connection}
 use Rattle.gb_laws.proofs.steps.DeliveredHands.{answers-open, over-ended, peer-replied}
 use Rattle.gb_laws.proofs.points.PointParts.{Basis, Hand, Untouched, is_silent}
 use Rattle.gb_laws.proofs.points.Points.{Answers, Forgets, Law, Says, answers, by_label, by_number}
-use Rattle.gb_laws.proofs.points.Points.{drops}
-use Rattle.gb_laws.proofs.points.Points.{forgets, holds, numbered, replied_to, replies, tells}
-use Rattle.gb_laws.proofs.points.Points.{unclean}
-use Rattle.gb_laws.proofs.points.Points.{unreplied}
+use Rattle.gb_laws.proofs.points.Points.{drops, forgets, holds, numbered, replied_to, replies}
+use Rattle.gb_laws.proofs.points.Points.{tells, unclean, unreplied}
 use Rattle.gb_laws.proofs.steps.StepActions.{At, Goes, goes-nothing, goes-tell}
 use Rattle.gb_laws.proofs.{steps.Delivered.IsTaken, steps.ServedOn.HasPeer}
-use Rattle.gb_laws.proofs.{steps.ServedOn.IsAsBefore}
-use Rattle.gb_laws.proofs.{steps.StepActLaws.acting, steps.StepServes.ends-response}
-use Rattle.gb_laws.proofs.{steps.StepSvcServes.Ends, steps.StepSvcServes.ends-going}
-use Rattle.gb_laws.proofs.steps.StepIdles.{goes-follows}
+use Rattle.gb_laws.proofs.{steps.ServedOn.IsAsBefore, steps.StepActLaws.acting}
+use Rattle.gb_laws.proofs.{steps.StepServes.ends-response, steps.StepSvcServes.Ends}
+use Rattle.gb_laws.proofs.{steps.StepSvcServes.ends-going}
+use Rattle.gb_laws.proofs.steps.Heard.{IsDelivered, heard}
+use Rattle.gb_laws.proofs.steps.StepLoads.{goes-follows}
 
 module _ (m : Moment) (law : Law m) where
   -- one action after another ends a step
@@ -94,6 +93,16 @@ module _ (m : Moment) (law : Law m) where
           (same-connection s.bus.connections x k.now basis.bus.numbers.rise n.0 k.live
           (n.1 ∙ sym k.self.number)) ∙ k.self.peer
 
+      -- the application processor answers as it serves
+      serves-so : (t : Side) → t ≡ side.Ap → (s.host ≡ m.before.host)
+          × ((response_at t c q s).answer
+          ≡ (host_serves c.number q.kind q.payload m.before.host).answer)
+      serves-so side.Ap is = (
+        same.0,
+        ap (λ h. (host_serves c.number q.kind q.payload h).answer) same.0,
+      )
+      serves-so side.Far is = absurd cc
+
       oneway : HasPeer c.number c.peer s.bus → (t : Bool) → Ends m law (Some (hand_of c at item))
           (cond t (response_at at c q s).behind (tell (entry.Ignored q.kind))) s
       oneway peer true = dropped-first (hand_of c at item) (response_at at c q s).behind s
@@ -107,7 +116,7 @@ module _ (m : Moment) (law : Law m) where
       by peer false e =
           then-ends (replying at c q (response_at at c q s).answer) (response_at at c q s).behind s
           (λ told now. law.kept _ (replies (hand_of c at item) q (response_at at c q s).answer refl
-          made e) now) (ends-response m law c at q s
+          made (e, serves-so at)) now) (ends-response m law c at q s
           taken (replied_to (response_at at c q s).answer refl)
           refl refl (peer-replied c.number (other_side at)
           (reply_item q (response_at at c q s).answer) c.peer s.bus peer) same refl refl)
@@ -135,22 +144,25 @@ module _ (m : Moment) (law : Law m) where
   -- ---- responses
 
   ends-answered : {h : Hand} (n : ℕ) {result : ℕ} {payload : List ℕ} (s : State)
-      → s.bus.requests ≡ m.before.bus.requests → Says h n result payload → Answers h n s.bus
+      → IsDelivered m s h → Says h n result payload → Answers h n s.bus
       → Ends m law (Some h) (ends_answered h.side h.connection n result payload) s
   unfolding machine_opened
-  ends-answered {h} n {result} {payload} s made says which = λ told now.
+  ends-answered {h} n {result} {payload} s is says which = λ told now.
       then-ends (on_bus (ended n (delivery.answered result payload)) ▸ tell
       (entry.Ended n (delivery.answered result payload)
       (reading_for h.side h.connection result payload (request_of n s.bus))))
       (follows n (delivery.answered result payload)) s
       (λ told now. law.kept _ (answers h n result payload refl says which) now)
       (ends-going m law (follows n (delivery.answered result payload))
-      (goes-follows m (acting m law) (λ a h. (law.basis a h).drains) n
-      (delivery.answered result payload) _
+      (goes-follows m law n (delivery.answered result payload) _
       (λ r p e. (
         over-ended n (delivery.answered result payload) s.bus (law.basis _ now).bus.outcomes
             (answers-open h n which),
-        made,
+        ap (λ (t : State). t.bus.requests) is.from,
+      ))
+      (λ bytes won. (
+        heard m s h n result payload bytes _ is (law.basis _ now).bus says which won,
+        (ap (λ (t : State). t.modules) is.from, ap (λ (t : State). t.loads) is.from),
       )))) told now
 
   ends-forgotten : {h : Hand} (n : ℕ) (e : Entry) (s : State) → is_silent e ≡ true
@@ -164,50 +176,50 @@ module _ (m : Moment) (law : Law m) where
   )
 
   ends-by_number : (c : Connection) (at : Side) (n result : ℕ) (payload : List ℕ) (s : State)
-      → s.bus.requests ≡ m.before.bus.requests → c.clean ≡ true
+      → IsDelivered m s (hand_of c at (Reply n result payload)) → c.clean ≡ true
       → Ends m law (Some (hand_of c at (Reply n result payload)))
       (arriving.by_number at c n result payload) s
   unfolding machine_opened
-  ends-by_number c at n result payload s made clean = by (is_open n s.bus) refl
+  ends-by_number c at n result payload s is clean = by (is_open n s.bus) refl
     where
       by : (t : Bool) → is_open n s.bus ≡ t
           → Ends m law (Some (hand_of c at (Reply n result payload)))
           (cond t (ends_answered at c n result payload) (arriving.forgets n (entry.Late n))) s
-      by true e = ends-answered n s made (numbered refl) (by_number result payload refl clean e)
+      by true e = ends-answered n s is (numbered refl) (by_number result payload refl clean e)
       by false e = ends-forgotten n (entry.Late n) s refl (by_number result payload refl clean)
 
   pub ends-by_label : (c : Connection) (at : Side) (item : Item) (label result : ℕ)
-      (payload : List ℕ) (s : State) → s.bus.requests ≡ m.before.bus.requests → c.clean ≡ false
+      (payload : List ℕ) (s : State) → IsDelivered m s (hand_of c at item) → c.clean ≡ false
       → Ends m law (Some (hand_of c at item)) (arriving.by_label at c label result payload) s
   unfolding machine_opened
-  ends-by_label c at item label result payload s made dirty =
+  ends-by_label c at item label result payload s is dirty =
       by (open_with c.number at label s.bus) refl (given_up_with c.number at label s.bus) refl
     where
       by : (o : Option ℕ) → open_with c.number at label s.bus ≡ o → (g : Option ℕ)
           → given_up_with c.number at label s.bus ≡ g → Ends m law (Some (hand_of c at item))
           (arriving.answers_by o g at c label result payload) s
-      by (Some n) e g f = ends-answered n s made (unclean dirty) (by_label label dirty e)
+      by (Some n) e g f = ends-answered n s is (unclean dirty) (by_label label dirty e)
       by None e (Some n) f = ends-forgotten n (entry.LateLabel label) s refl
           (by_label label dirty f)
       by None e None f = ends-told (hand_of c at item) (entry.UnknownLabel label) s refl
 
   pub ends-reply : (c : Connection) (at : Side) (n result : ℕ) (payload : List ℕ) (s : State)
-      → s.bus.requests ≡ m.before.bus.requests
+      → IsDelivered m s (hand_of c at (Reply n result payload))
       → Ends m law (Some (hand_of c at (Reply n result payload)))
       (reply_taken at c n result payload) s
   unfolding machine_opened
-  ends-reply c at n result payload s made = by c.clean refl
+  ends-reply c at n result payload s is = by c.clean refl
     where
       unsaid : (o : Option Request) → c.clean ≡ false
           → Ends m law (Some (hand_of c at (Reply n result payload)))
           (given o (λ r. arriving.by_label at c r.label result payload)) s
       unsaid None dirty = ends-untold (hand_of c at (Reply n result payload)) s
       unsaid (Some r) dirty =
-          ends-by_label c at (Reply n result payload) r.label result payload s made dirty
+          ends-by_label c at (Reply n result payload) r.label result payload s is dirty
 
       by : (t : Bool) → c.clean ≡ t → Ends m law (Some (hand_of c at (Reply n result payload)))
           (cond t (arriving.by_number at c n result payload)
           (by_state (λ u. given (request_of n u.bus)
           (λ r. arriving.by_label at c r.label result payload)))) s
-      by true e = ends-by_number c at n result payload s made e
+      by true e = ends-by_number c at n result payload s is e
       by false e = unsaid (request_of n s.bus) e

@@ -1,20 +1,21 @@
 -- A law of points goes over the start of the supervisory controller, and modules that come and go.
-use Rattle.std.proofs.Common.{Bool, List, None, inl, inr, length, refl, true, ℕ, [], ◌∷◌}
+use Rattle.std.proofs.Common.{Bool, List, None, inl, inr, length, refl, true, ℕ, [], ◌+◌, ◌∷◌}
 use Rattle.std.specs.List.{filter}
 use Rattle.std.specs.Prelude.{◌==◌}
 use Rattle.gb_formats.specs.SvcRecords.{SvcAsk}
 use Rattle.gb_formats.specs.Module.{Module}
 use Rattle.gb_machine.proofs.Opened.{machine_opened}
 use Rattle.gb_machine.specs.Actions.{Action, change, each, nothing, when, ◌▸◌}
-use Rattle.gb_machine.specs.Plugging.{boots, parts_of, plugs, tells_inserted, with_plugged}
-use Rattle.gb_machine.specs.{OwnAsking.svc_asks, OwnAsking.svc_own}
-use Rattle.gb_machine.specs.Modules.{is_primary}
-use Rattle.gb_machine.specs.{Runs.Moment, State.Plugged, State.State}
+use Rattle.gb_machine.specs.Plugging.{boots, parts_from, parts_of, plugs, tells_inserted}
+use Rattle.gb_machine.specs.Plugging.{with_plugged}
+use Rattle.gb_machine.specs.{Members.Each, Modules.is_primary, OwnAsking.svc_asks}
+use Rattle.gb_machine.specs.{OwnAsking.svc_own, Runs.Moment, State.Plugged, State.State}
 use Rattle.gb_laws.proofs.points.LowTypes.{svc-low}
 use Rattle.gb_laws.proofs.points.Points.{IsOfSvc, Law, by_svc, others}
+use Rattle.gb_laws.proofs.steps.LoaderStays.{AreFirst, keeps-plugged, same-loaders}
 use Rattle.gb_laws.proofs.steps.StepActions.{Goes, goes-far_asks, goes-nothing, goes-when, goes-▸}
-use Rattle.gb_laws.proofs.{points.PointParts.Untouched, svc.StayPlugged.powered-off}
-use Rattle.gb_laws.proofs.{steps.StepActLaws.acting}
+use Rattle.gb_laws.proofs.{points.PointParts.Untouched, steps.StepActLaws.acting}
+use Rattle.gb_laws.proofs.{svc.StayPlugged.powered-off}
 
 -- ---- the shape of steps that leave wires alone
 
@@ -37,7 +38,7 @@ module _ (m : Moment) (law : Law m) where
   pub rests-svc : IsOfSvc m.event → (ask : SvcAsk) (s : State) → Rests (svc_asks ask) s
   unfolding machine_opened
   rests-svc of ask s = goes-far_asks m (acting m law) [] Untouched 1 (svc_own ask) s
-      (λ c e. by_svc of refl) (svc-low ask)
+      (λ c e. (by_svc of refl, inl refl)) (svc-low ask)
 
   -- ---- booting, plugging and pulling
 
@@ -61,28 +62,37 @@ module _ (m : Moment) (law : Law m) where
       (svc_asks (SvcAsk.Hello 1 1)) s
       (rests-▸ (change (λ t. record t { booted = true })) (svc_asks (SvcAsk.ProtocolVersion 0 1)) s
       (λ told at. law.kept _ (others true s.holds s.ports s.modules
-      (inr (of, λ i. inl refl, λ k i. inl i))) at)
+      (inr (of, λ i. inl refl, λ k i. inl i), same-loaders s.modules)) at)
       (rests-svc of (SvcAsk.ProtocolVersion 0 1) _))
       (rests-svc of (SvcAsk.Hello 1 1) _)) (rests-inserted_all of (filter is_primary s.modules) _)
 
-  -- parts of a module are plugged
-  rests-plugged_all : IsOfSvc m.event → (ps : List Plugged) (s : State)
+  -- parts of a module are plugged, whose loaders are in their first state
+  rests-plugged_all : IsOfSvc m.event → (ps : List Plugged)
+      → Each (λ (p : Plugged). AreFirst p.body) ps → (s : State)
       → Rests (each ps (λ p. change (with_plugged p))) s
   unfolding machine_opened
-  rests-plugged_all of [] s = rests-nothing s
-  rests-plugged_all of (p ∷ ps) s =
+  rests-plugged_all of [] first s = rests-nothing s
+  rests-plugged_all of (p ∷ ps) first s =
       rests-▸ (change (with_plugged p)) (each ps (λ p. change (with_plugged p))) s
       (λ told at. law.kept _ (others s.booted s.holds (with_plugged p s).ports
       (with_plugged p s).modules (inr (
         of,
         λ j. powered-off p.intf j s.ports (p.intf == j),
         λ k n. inl n,
-      ))) at) (rests-plugged_all of ps (with_plugged p s))
+      ), keeps-plugged p s.modules first.0)) at)
+      (rests-plugged_all of ps first.1 (with_plugged p s))
 
-  pub rests-plugs : IsOfSvc m.event → (i : ℕ) (ms : List Module) (s : State) → Rests (plugs i ms) s
+  pub rests-plugs : IsOfSvc m.event → (i : ℕ) (ms : List Module) → Each AreFirst ms → (s : State)
+      → Rests (plugs i ms) s
   unfolding machine_opened
-  rests-plugs of i ms s =
+  rests-plugs of i ms first s =
       rests-▸ (each (parts_of i ms) (λ p. change (with_plugged p)))
-      (when s.booted (tells_inserted i (length ms))) s (rests-plugged_all of (parts_of i ms) s)
+      (when s.booted (tells_inserted i (length ms))) s
+      (rests-plugged_all of (parts_of i ms) (parts-first ms i first) s)
       (rests-when s.booted (tells_inserted i (length ms)) _
       (rests-svc of (SvcAsk.ModuleInserted i (length ms) 0) _))
+    where
+      parts-first : (xs : List Module) (n : ℕ) → Each AreFirst xs
+          → Each (λ (p : Plugged). AreFirst p.body) (parts_from n i (length ms) xs)
+      parts-first [] n h = tt
+      parts-first (x ∷ xs) n h = (h.0, parts-first xs (n + 1) h.1)

@@ -1,13 +1,15 @@
 -- A law of points goes over what a served request brings about.
-use Rattle.std.proofs.Common.{List, None, Option, Some, ap, inl, refl, subst, sym, ℕ, []}
-use Rattle.std.proofs.Common.{◌++◌, ◌∙◌, ◌≡◌}
+use Rattle.std.proofs.Common.{List, None, Option, Some, ap, inl, inr, refl, subst, sym, ℕ, ⊎_elim}
+use Rattle.std.proofs.Common.{[], ◌++◌, ◌∙◌, ◌≡◌}
+use Rattle.std.specs.Prelude.{option_and_then}
 use Rattle.gb_base.specs.declared.end.{End.End, Side.Side}
 use Rattle.gb_base.specs.declared.end.End.TheVariants as end
 use Rattle.gb_base.specs.declared.end.Side.TheVariants as side
 use Rattle.gb_base.specs.declared.entry.Entry.{Entry}
 use Rattle.gb_base.specs.declared.host_event.HostEvent.TheVariants as host_event
 use Rattle.gb_base.specs.declared.host_event.HostEvent.{HostEvent}
-use Rattle.gb_formats.specs.{Module.Module, ModuleSteps.module_serve, Results.Step}
+use Rattle.gb_formats.specs.{Module.Module, ModuleLoads.loader_at, ModuleSteps.module_serve}
+use Rattle.gb_formats.specs.{Results.Step}
 use Rattle.gb_machine.proofs.Opened.{machine_opened}
 use Rattle.gb_machine.specs.Actions.{change, given, on_host, tell, ◌▸◌}
 use Rattle.gb_machine.specs.Responding.{far_response, host_behind, module_response, module_stepped}
@@ -16,34 +18,38 @@ use Rattle.gb_machine.specs.SvcTable.{Answered, Create, Destroy, SvcServed, Unro
 use Rattle.gb_machine.specs.{Bus.Bus, Bus.Connection, Host.Host, HostActs.notices}
 use Rattle.gb_machine.specs.{HostServing.HostServed, HostServing.host_serves, Incoming.Incoming}
 use Rattle.gb_machine.specs.{Lists.first, Modules.module_at, Modules.with_module}
-use Rattle.gb_machine.specs.{OwnAsking.far_asks_all, Ports.is_powered, Ports.unrouted}
-use Rattle.gb_machine.specs.{Runs.Moment, State.State}
+use Rattle.gb_machine.specs.{OwnAsking.far_asks_all, Ports.is_powered, Ports.unrouted, Runs.Moment}
+use Rattle.gb_machine.specs.{State.State}
 use Rattle.gb_invariants.proofs.Awaiting.{none-some, same-some}
 use Rattle.gb_laws.proofs.steps.Delivered.{IsTaken, noticed, served-at, serving-of}
 use Rattle.gb_laws.proofs.points.Places.{ComesFrom, LivesOn, comes-after, lives-after}
 use Rattle.gb_laws.proofs.points.LowTypes.{AreLow, module-low}
 use Rattle.gb_laws.proofs.points.PointParts.{IsNoticed, IsServed, Untouched}
-use Rattle.gb_laws.proofs.points.Points.{IsAfterReply, IsServing, Law, as_before}
-use Rattle.gb_laws.proofs.points.Points.{loses_route, others, replied_to, served, serves, unreplied}
+use Rattle.gb_laws.proofs.steps.LoaderStays.{AsksUnloaded, KeepsEach, keeps-module, module-there}
+use Rattle.gb_laws.proofs.steps.LoaderStays.{serve-asks, serve-keeps}
+use Rattle.gb_laws.proofs.points.Points.{IsAfterReply, IsServing, Law, as_before, loses_route}
+use Rattle.gb_laws.proofs.points.Points.{others, replied_to, served, serves, unreplied}
 use Rattle.gb_laws.proofs.svc.Powering.{IsReady, step-powered, step-ready}
 use Rattle.gb_laws.proofs.steps.Served.{IsQuietly, ServedAs, inserting, plainly, removing}
 use Rattle.gb_laws.proofs.steps.Served.{served as served_as}
 use Rattle.gb_laws.proofs.steps.ServedOn.{Comes, HasPeer, IsAsBefore}
-use Rattle.gb_laws.proofs.steps.StepActions.{At, Goes, IsToModule, goes-far_asks_all, goes-nothing}
-use Rattle.gb_laws.proofs.steps.StepActions.{goes-tell, goes-▸}
+use Rattle.gb_laws.proofs.steps.StepActions.{At, Goes, goes-far_asks_all, goes-nothing, goes-tell}
+use Rattle.gb_laws.proofs.steps.StepActions.{goes-▸}
 use Rattle.gb_laws.proofs.steps.StepSvcServes.{Ends, ends-decided, ends-going, ends-nothing}
-use Rattle.gb_laws.proofs.{svc.StayPlugged.module-plugs}
 use Rattle.gb_laws.proofs.{steps.StepActLaws.acting, steps.StepActs.Acts}
 use Rattle.gb_laws.proofs.{steps.StepModules.goes-inserted, steps.StepModules.goes-removed}
+use Rattle.gb_laws.proofs.{svc.StayPlugged.module-plugs}
 
 module _ (m : Moment) (law : Law m) where
   -- ---- modules
 
-  ends-module : (k i : ℕ) (step : Step Module) (s : State)
-      → IsToModule k s.bus → AreLow step.served.asks
+  ends-module : (k i c : ℕ) (x : Module) (step : Step Module) (s : State)
+      → module_at i s.modules ≡ Some x → HasPeer k (end.Module i c) s.bus
+      → AreLow step.served.asks → KeepsEach x step.after
+      → AsksUnloaded step.served.asks (loader_at step.after c)
       → Ends m law None (module_stepped k i step).behind s
   unfolding machine_opened
-  ends-module k i step s to low =
+  ends-module k i c x step s there to low keeps unloaded =
       ends-going m law (module_stepped k i step).behind (goes-▸ m (acting m law)
       (change (λ t. record t { modules = with_module i step.after t.modules }))
       (far_asks_all k step.served.asks)
@@ -53,16 +59,20 @@ module _ (m : Moment) (law : Law m) where
         as_before refl,
         record { hand = refl; pending = refl; asked = refl },
         λ k i. inl i,
-      ))) at) (goes-far_asks_all m (acting m law) [] Untouched k step.served.asks
-      (record s { modules = with_module i step.after s.modules }) to low))
+      ), keeps-module i step.after x s.modules there keeps)) at)
+      (goes-far_asks_all m (acting m law) [] Untouched i c k step.served.asks
+      (record s { modules = with_module i step.after s.modules }) to low
+      (⊎_elim (λ e. inl e) (λ e. inr (ap (option_and_then (λ y. loader_at y c))
+      (module-there i step.after x s.modules there) ∙ e)) unloaded)))
 
   ends-at_module : (k i c : ℕ) (q : Incoming) (o : Option Module) (s : State)
-      → module_at i s.modules ≡ o → IsToModule k s.bus
+      → module_at i s.modules ≡ o → HasPeer k (end.Module i c) s.bus
       → Ends m law None (module_response k i c q o).behind s
   ends-at_module k i c q None s e to = ends-nothing m law
   ends-at_module k i c q (Some x) s e to =
-      ends-module k i (module_serve x c q.kind q.payload) s to
-      (module-low x c q.kind q.payload)
+      ends-module k i c x (module_serve x c q.kind q.payload) s e to
+      (module-low x c q.kind q.payload) (serve-keeps x c q.kind q.payload)
+      (serve-asks x c q.kind q.payload)
 
   -- ---- the far side
 
@@ -70,8 +80,7 @@ module _ (m : Moment) (law : Law m) where
       → ComesFrom s.bus u.bus → u.ports ≡ s.ports → u.modules ≡ s.modules → HasPeer k e u.bus
       → (e ≡ end.Svc → IsServing m u q) → Ends m law None (far_response e k q s).behind u
   ends-far (end.Module i c) k q s u on came ports modules peer serving =
-      ends-at_module k i c q (module_at i s.modules) u (ap (module_at i) modules)
-      (λ x e. (i, c, peer x e))
+      ends-at_module k i c q (module_at i s.modules) u (ap (module_at i) modules) peer
   ends-far end.Svc k q s u on came ports modules peer serving =
       let step = svc_step s.ports q.kind q.payload in
       ends-decided m law step.served step.ports s u on came (comes step.served refl)

@@ -1,26 +1,30 @@
 -- A law of points goes over what the supervisory controller serves.
-use Rattle.std.proofs.Common.{Bool, List, None, Option, Some, ap, cond, false, inl, refl, subst}
-use Rattle.std.proofs.Common.{sym, true, ℕ, [], ◌++◌, ◌∙◌, ◌≡◌}
+use Rattle.std.proofs.Common.{Bool, List, None, Option, Some, ap, append_assoc, cond, false, inl}
+use Rattle.std.proofs.Common.{refl, subst, sym, true, ℕ, [], ◌++◌, ◌∙◌, ◌≡◌}
 use Rattle.std.specs.List.{list_any}
 use Rattle.std.specs.Prelude.{◌&&◌}
+use Rattle.gb_base.specs.declared.end.Side.TheVariants as side
 use Rattle.gb_base.specs.declared.entry.Entry.{Entry}
+use Rattle.gb_base.specs.declared.outcome.Outcome.TheVariants as outcome
 use Rattle.gb_machine.proofs.Opened.{machine_opened}
-use Rattle.gb_machine.specs.Responding.{Response, creates, destroys, responds_plainly}
+use Rattle.gb_machine.specs.Responding.{Response, creates, destroys, disconnects, responds_plainly}
 use Rattle.gb_machine.specs.Responding.{responds_with, svc_decided, with_ports}
 use Rattle.gb_machine.specs.Serving.{invalid, nonexistent, plainly as plainly_answers, success}
 use Rattle.gb_machine.specs.SvcTable.{Answered, Create, Destroy, SvcServed, Unroute}
 use Rattle.gb_machine.specs.Wiring.{is_at, is_wired_to, joining}
-use Rattle.gb_machine.specs.{Actions.Action, Actions.nothing, Bus.Connection, Ports.is_powered}
-use Rattle.gb_machine.specs.{Ports.unrouted, Runs.Moment, State.Port, State.State}
+use Rattle.gb_machine.specs.{Actions.Action, Actions.each, Actions.nothing, Bus.Connection}
+use Rattle.gb_machine.specs.{Loading.load_follows, Ports.is_powered, Ports.unrouted}
+use Rattle.gb_machine.specs.{Requests.open_on, Runs.Moment, State.Port, State.State}
 use Rattle.gb_machine.specs.Wires as wiring
 use Rattle.gb_invariants.proofs.Found.{none-any}
 use Rattle.gb_laws.proofs.points.PointParts.{Hand, Untouched, Unwired, Wired, Wires}
 use Rattle.gb_laws.proofs.points.Points.{IsCreated, IsLive, Law, PortsFrom, others, unwires, wires}
 use Rattle.gb_laws.proofs.svc.Powering.{IsReady, IsRouted, port-powered}
+use Rattle.gb_laws.proofs.steps.LoaderStays.{same-loaders}
 use Rattle.gb_laws.proofs.steps.StepActions.{At, Goes, goes-nothing}
 use Rattle.gb_laws.proofs.{points.Places.ComesFrom, points.Places.LivesOn, steps.ServedOn.Comes}
-use Rattle.gb_laws.proofs.{steps.ServedOn.joining-live}
-use Rattle.gb_laws.proofs.{steps.StepActLaws.acting}
+use Rattle.gb_laws.proofs.{steps.ServedOn.joining-live, steps.StepActLaws.acting}
+use Rattle.gb_laws.proofs.{steps.StepLoads.rests-loads_fail}
 
 module _ (m : Moment) (law : Law m) where
   -- an action ends a step, whatever becomes of wires
@@ -53,7 +57,7 @@ module _ (m : Moment) (law : Law m) where
       from,
       record { hand = refl; pending = refl; asked = refl },
       λ k i. inl i,
-    ))) at,
+    ), same-loaders s.modules)) at,
   )
 
   pub ends-nothing : {s : State} → Ends None nothing s
@@ -66,9 +70,23 @@ module _ (m : Moment) (law : Law m) where
   ends-wires k s live ready made told at =
       (Wired, law.kept _ (wires k refl refl live (ready.0, ready.1, made)) at)
 
-  ends-unwires : (k : ℕ) (s : State) → IsLive k true s.bus → Ends None (wiring.unwires k) s
+  -- a connection is unwired, and downloads fail whose requests ended so
+  ends-disconnects : (k : ℕ) (s : State) → IsLive k true s.bus → Ends None (disconnects k) s
   unfolding machine_opened
-  ends-unwires k s live told at = (Unwired, law.kept _ (unwires k refl (λ e. absurd cc) live) at)
+  ends-disconnects k s live told at = (
+    Unwired,
+    subst (λ es. At m (acting m law) None [] Unwired es (disconnects k s).state)
+        (append_assoc told (wiring.unwires k s).entries (fail (wiring.unwires k s).state).entries)
+        (rests-loads_fail m law Unwired ended (wiring.unwires k s).state
+        (told ++ (wiring.unwires k s).entries)
+        (law.kept _ (unwires k refl (λ e. absurd cc) live) at)),
+  )
+    where
+      ended : List ℕ
+      ended = open_on k side.Far s.bus
+
+      fail : Action
+      fail = each ended (λ n. load_follows n outcome.Disconnected)
 
   -- one of two responses
   ends-either : (b : Bool) (x y : Response) (s : State) → (b ≡ true → Ends None x.behind s)
@@ -94,9 +112,9 @@ module _ (m : Moment) (law : Law m) where
       → Ends None (destroys o).behind s
   ends-destroys None s live = ends-nothing
   ends-destroys (Some c) s live =
-      ends-either c.wired (responds_with (plainly_answers success) (wiring.unwires c.number))
+      ends-either c.wired (responds_with (plainly_answers success) (disconnects c.number))
       (responds_plainly nonexistent) s
-      (λ e. ends-unwires c.number s (live c true refl e)) (λ e. ends-nothing)
+      (λ e. ends-disconnects c.number s (live c true refl e)) (λ e. ends-nothing)
 
   pub ends-decided : (d : SvcServed) (ports : List Port) (s u : State) → LivesOn s.bus u.bus
       → ComesFrom s.bus u.bus → Comes m u d ports

@@ -1,30 +1,36 @@
 -- A law of points goes over the step of each event.
-use Rattle.std.proofs.Common.{None, Option, Some, append_assoc, arith, map, refl, subst, sym, []}
-use Rattle.std.proofs.Common.{◌++◌, ◌∷◌, ◌≡◌}
+use Rattle.std.proofs.Common.{List, None, Option, Some, append_assoc, arith, map, refl, subst, sym}
+use Rattle.std.proofs.Common.{[], ◌++◌, ◌∷◌, ◌≡◌}
 use Rattle.gb_base.specs.declared.entry.Entry.TheVariants as entry
 use Rattle.gb_base.specs.declared.event.Event.{Event}
 use Rattle.gb_base.specs.declared.event.Event.TheVariants as event
 use Rattle.gb_base.specs.declared.host_event.HostEvent.TheVariants as host_event
+use Rattle.gb_base.specs.declared.event.Kind.{Kind}
 use Rattle.gb_base.specs.declared.refusal.Refusal.{Refusal}
 use Rattle.gb_formats.specs.{Devices.Level, Devices.Serial, Module.module_of_kind}
 use Rattle.gb_formats.specs.{Module.module_raw}
 use Rattle.gb_machine.proofs.Opened.{machine_opened}
 use Rattle.gb_machine.specs.Runs.{IsMoment, Moment, after, told_at}
-use Rattle.gb_machine.specs.{Events.decided, Events.does, Refusals.refusal}
+use Rattle.gb_machine.specs.{Events.decided, Events.does, Members.Each, Refusals.refusal}
 use Rattle.gb_invariants.proofs.HostChanges.{at_event}
 use Rattle.gb_laws.proofs.points.PointParts.{Untouched, Wires, resting}
 use Rattle.gb_laws.proofs.points.Points.{IsBridge, IsOfSvc, Law, frees, tells}
-use Rattle.gb_laws.proofs.steps.StepEvents.{rests-bridges, rests-cancels, rests-copies, rests-holds}
-use Rattle.gb_laws.proofs.steps.StepEvents.{rests-injects, rests-sends, rests-shows, rests-stirs}
-use Rattle.gb_laws.proofs.{steps.StepActLaws.acting}
-use Rattle.gb_laws.proofs.{steps.StepActions.At, steps.StepActs.goes-notice}
-use Rattle.gb_laws.proofs.{steps.StepDelivers.ends-answers}
-use Rattle.gb_laws.proofs.{steps.StepDelivers.ends-delivers, steps.StepPlugs.rests-boots}
-use Rattle.gb_laws.proofs.{steps.StepPlugs.rests-plugs}
-use Rattle.gb_laws.proofs.{steps.StepSvcServes.Ends, steps.StepSvcServes.ends-going}
-use Rattle.gb_laws.proofs.{steps.Ticking.ends-pulls}
+use Rattle.gb_laws.proofs.steps.LoaderStays.{AreFirst, first-kind, first-raw}
+use Rattle.gb_laws.proofs.steps.StepEvents.{rests-bridges, rests-cancels, rests-copies, rests-gives}
+use Rattle.gb_laws.proofs.steps.StepEvents.{rests-holds, rests-injects, rests-sends, rests-shows}
+use Rattle.gb_laws.proofs.steps.StepEvents.{rests-stirs}
+use Rattle.gb_laws.proofs.{steps.StepActLaws.acting, steps.StepActions.At}
+use Rattle.gb_laws.proofs.{steps.StepActs.goes-notice, steps.StepDelivers.ends-answers}
+use Rattle.gb_laws.proofs.{steps.StepDelivers.ends-delivers, steps.StepIdles.goes-drains}
+use Rattle.gb_laws.proofs.{steps.StepLoads.rests-loads, steps.StepPlugs.rests-boots}
+use Rattle.gb_laws.proofs.{steps.StepPlugs.rests-plugs, steps.StepSvcServes.Ends}
+use Rattle.gb_laws.proofs.{steps.StepSvcServes.ends-going, steps.Ticking.ends-pulls}
 use Rattle.gb_laws.proofs.{steps.Ticking.rests-ticks}
-use Rattle.gb_laws.proofs.steps.StepIdles.{goes-drains}
+
+-- the loaders of modules of kinds are in their first state
+kinds-first : (kinds : List Kind) → Each AreFirst (map module_of_kind kinds)
+kinds-first [] = tt
+kinds-first (k ∷ ks) = (first-kind k, kinds-first ks)
 
 module _ (m : Moment) (law : Law m) where
   -- what an event does that isn't refused
@@ -34,10 +40,12 @@ module _ (m : Moment) (law : Law m) where
   ends-does event.Boot is one free = ends-going m law (does event.Boot)
       (rests-boots m law (subst IsOfSvc (sym is) tt) m.before)
   ends-does (event.Insert i kinds) is one free = ends-going m law (does (event.Insert i kinds))
-      (rests-plugs m law (subst IsOfSvc (sym is) tt) i (map module_of_kind kinds) m.before)
+      (rests-plugs m law (subst IsOfSvc (sym is) tt) i (map module_of_kind kinds)
+      (kinds-first kinds) m.before)
   ends-does (event.InsertRaw i manifest) is one free = ends-going m law
       (does (event.InsertRaw i manifest))
-      (rests-plugs m law (subst IsOfSvc (sym is) tt) i (module_raw manifest ∷ []) m.before)
+      (rests-plugs m law (subst IsOfSvc (sym is) tt) i (module_raw manifest ∷ [])
+      (first-raw manifest, tt) m.before)
   ends-does (event.Pull i) is one free = ends-pulls m law (subst IsOfSvc (sym is) tt) i
   ends-does (event.Connect i c) is one free =
       ends-going m law (does (event.Connect i c))
@@ -75,6 +83,10 @@ module _ (m : Moment) (law : Law m) where
       ends-going m law (does (event.Tick millis)) (rests-ticks m law millis is)
   ends-does (event.Inject i c bytes) is one free = ends-going m law
       (does (event.Inject i c bytes)) (rests-injects m law i c bytes m.before)
+  ends-does (event.Image tag bytes) is one free =
+      ends-going m law (does (event.Image tag bytes)) (rests-gives m law tag bytes is free)
+  ends-does (event.Load i c tag) is one free =
+      ends-going m law (does (event.Load i c tag)) (rests-loads m law i c tag is free)
   ends-does event.Show is one free =
       ends-going m law (does event.Show) (rests-shows m law m.before)
 

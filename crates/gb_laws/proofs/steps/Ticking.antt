@@ -25,9 +25,8 @@ use Rattle.gb_machine.specs.Plugging.{pulls, pulls_module, pulls_one, recalled, 
 use Rattle.gb_machine.specs.Plugging.{wired_numbers, with_pulled, with_told}
 use Rattle.gb_machine.specs.Ports.{is_port, level_in, level_of, unpowered}
 use Rattle.gb_machine.specs.Wiring.{is_at, is_wired_to, unwired}
-use Rattle.gb_machine.specs.{OwnAsking.svc_asks, OwnAsking.svc_own}
-use Rattle.gb_machine.specs.{Requests.is_due, Requests.open_on, Runs.Moment, State.Port}
-use Rattle.gb_machine.specs.{State.State}
+use Rattle.gb_machine.specs.{OwnAsking.svc_asks, OwnAsking.svc_own, Requests.is_due}
+use Rattle.gb_machine.specs.{Requests.open_on, Runs.Moment, State.Port, State.State}
 use Rattle.gb_machine.specs.Wires as wiring
 use Rattle.gb_machine.specs.State.{Plugged}
 use Rattle.gb_machine.specs.Modules.{interfaces_of, part_at}
@@ -38,7 +37,8 @@ use Rattle.gb_invariants.specs.Facts.{IsBefore}
 use Rattle.gb_laws.proofs.points.Overdue.{IsOverdue, overdue-first, overdue-others}
 use Rattle.gb_laws.proofs.points.PointParts.{Untouched, Unwired, Wired, Wires}
 use Rattle.gb_laws.proofs.points.Points.{IsLive, IsOfSvc, Law, by_svc, others, passes, recalls}
-use Rattle.gb_laws.proofs.points.Points.{unwires as unwiring}
+use Rattle.gb_laws.proofs.points.Points.{unloads, unwires as unwiring}
+use Rattle.gb_laws.proofs.steps.LoaderStays.{keeps-unplugged, none-unplugged}
 use Rattle.gb_laws.proofs.steps.StepActions.{At, goes-far_asks}
 use Rattle.gb_laws.proofs.steps.StepPlugs.{Rests, rests-nothing, rests-▸}
 use Rattle.gb_laws.proofs.{steps.StepActLaws.acting, steps.StepEvents.rests-gives_up}
@@ -277,12 +277,16 @@ module _ (m : Moment) (law : Law m) where
       gone w told u = record {
         wires = u.wires;
         is = u.is;
-        holds = law.kept _ (others w.booted w.holds (with_pulled i w).ports
+        holds = subst
+            (λ es. At m (acting m law) None [] u.wires es (with_pulled i w))
+            (append-nil (told ++ []))
+            (law.kept _ (unloads i of (none-unplugged i w.modules))
+            (law.kept _ (others w.booted w.holds (with_pulled i w).ports
             (with_pulled i w).modules (inr (
               of,
               λ j. unpowered-off i j w.ports (j == i) refl,
               λ k n. inl n,
-            ))) u.holds;
+            ), keeps-unplugged i w.modules)) u.holds));
       }
 
   cuts-nothing : (s : State) → Cuts nothing s
@@ -337,7 +341,7 @@ module _ (m : Moment) (law : Law m) where
     wires = u.wires;
     is = u.is;
     holds = goes-far_asks m (acting m law) [] u.wires 1 (svc_own (SvcAsk.ModuleRemoved i)) w
-        (λ c e. by_svc of refl) (omega arith) told u.holds;
+        (λ c e. (by_svc of refl, inl refl)) (omega arith) told u.holds;
   }
 
   cuts-module : IsOfSvc m.event → (p : Plugged) (s : State) → Cuts (pulls_module p) s

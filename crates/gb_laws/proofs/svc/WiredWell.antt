@@ -10,14 +10,17 @@ use Rattle.gb_machine.specs.Ports.{is_powered, level_in, level_of, port_of, unro
 use Rattle.gb_machine.specs.{Members.IsIn, Modules.is_plugged, Runs.Moment, State.Port, State.State}
 use Rattle.gb_machine.specs.{SvcTable.svc_step, Wiring.is_at, Wiring.is_wired_to}
 use Rattle.gb_invariants.proofs.{Awaiting.not-both, Lists.in-at_first, Numbers.same-connection}
-use Rattle.gb_invariants.proofs.{Outcomes.is-same, Outcomes.same-number, Wires.WasWired}
+use Rattle.gb_invariants.proofs.{BusChanges.BusChange, Outcomes.is-same, Outcomes.same-number}
+use Rattle.gb_invariants.proofs.{Wires.WasWired}
 use Rattle.gb_invariants.proofs.{Wires.was-wired}
 use Rattle.gb_laws.proofs.svc.Levels.{StepOn, by_record, nothing_changes, other-port, same-port}
 use Rattle.gb_laws.proofs.svc.Levels.{step-levels}
 use Rattle.gb_laws.proofs.points.Points.{Change, IsElse, IsOfSvc, PortsFrom, acts_asked, as_before}
-use Rattle.gb_laws.proofs.points.Points.{changed, loses_route, others, served, wires}
+use Rattle.gb_laws.proofs.points.Points.{SamePlugs, asks, changed, finishes, loses_route, others}
+use Rattle.gb_laws.proofs.points.Points.{served, wires}
 use Rattle.gb_laws.proofs.{points.Awaited.awaited-rest, points.ChangeBuses.bus_change}
 use Rattle.gb_laws.proofs.{links.LinkActs.awaited-plugs}
+use Rattle.gb_laws.proofs.points.LoaderFacts.{asked-plugs, module-plugs}
 use Rattle.gb_laws.proofs.{points.PointParts.Basis}
 use Rattle.gb_laws.proofs.{points.PointParts.Point}
 use Rattle.gb_laws.proofs.marks.Wholes.{still-plugged}
@@ -33,18 +36,30 @@ pub record WiredFit (s : State) : Type 0 where
   pub routed : (c : Connection) → IsIn c s.bus.connections → c.wired ≡ true → (i p : ℕ)
       → c.peer ≡ end.Module i p → level_of i s.ports ≡ 6
 
--- the bus changes so, and nothing else that matters
-pub fit-bus : (s : State) {t : State} → WasWired s.bus t.bus → t.modules ≡ s.modules → t.ports ≡
-    s.ports → WiredFit s → WiredFit t
-fit-bus s was modules ports h = record {
+-- the bus changes so, and what is plugged and levels stay
+fit-plugged : (s : State) {t : State} → WasWired s.bus t.bus
+    → ((i : ℕ) → is_plugged i t.modules ≡ is_plugged i s.modules) → t.ports ≡ s.ports
+    → WiredFit s → WiredFit t
+fit-plugged s was plugged ports h = record {
   wired = λ c live wired i p at. let w =
-      was c live wired in ap (is_plugged i) modules ∙ h.wired w.0 w.1 w.3 i p (sym w.2.peer ∙ at);
-  powered = λ i e. ap (is_plugged i) modules ∙ h.powered i (sym (ap (is_powered i) ports) ∙ e);
-  range = λ i e. h.range i (sym (ap (is_plugged i) modules) ∙ e);
+      was c live wired in plugged i ∙ h.wired w.0 w.1 w.3 i p (sym w.2.peer ∙ at);
+  powered = λ i e. plugged i ∙ h.powered i (sym (ap (is_powered i) ports) ∙ e);
+  range = λ i e. h.range i (sym (plugged i) ∙ e);
   bound = λ i. subst (λ ps. level_of i ps ≤ 6) (sym ports) (h.bound i);
   routed = λ c live wired i p at. let w = was c live wired in
       ap (level_of i) ports ∙ h.routed w.0 w.1 w.3 i p (sym w.2.peer ∙ at);
 }
+
+-- nothing else that matters changes
+pub fit-bus : (s : State) {t : State} → WasWired s.bus t.bus → t.modules ≡ s.modules → t.ports ≡
+    s.ports → WiredFit s → WiredFit t
+fit-bus s was modules ports h = fit-plugged s was (λ i. ap (is_plugged i) modules) ports h
+
+-- modules change, and what is plugged stays
+fit-modules : (s : State) {t : State} → WasWired s.bus t.bus
+    → SamePlugs s t.booted s.ports t.modules → t.ports ≡ s.ports → WiredFit s → WiredFit t
+fit-modules s was plugs ports h =
+    fit-plugged s was (λ i. still-plugged i _ _ (plugs.plugged i)) ports h
 
 -- a level that isn't below the highest is that
 pub at-most : (n : ℕ) → n ≤ 6 → nat_lt n 6 ≡ false → n ≡ 6
@@ -160,7 +175,7 @@ wired-kept m other a (acts_asked q n rest is) basis h =
       routed = λ c live wired i p at. ap (level_of i) ports
           ∙ h.routed c (subst (λ (b : Bus). IsIn c b.connections) bus live) wired i p at;
     }
-wired-kept m other a (others booted marks ports modules same) basis h = by same
+wired-kept m other a (others booted marks ports modules same) basis h = by same.0
   where
     by : IsElse m a booted marks ports modules
         → WiredFit (changed m a (others booted marks ports modules same)).state
@@ -175,5 +190,11 @@ wired-kept m other a (others booted marks ports modules same) basis h = by same
           ((levels-kept m a.state ports h.bound s.1).routed i (h.routed c live wired i p at));
     }
     by (inr of) = absurd (other of.0)
+wired-kept m other a (asks d c label free live drawn who) basis h =
+    fit-modules a.state (was-wired (BusChange.sends d label) a.state.bus refl)
+    (asked-plugs m a c d who) refl h
+wired-kept m other a (finishes i c x tag size idle is) basis h =
+    fit-modules a.state (was-wired BusChange.rests a.state.bus refl) (module-plugs a.state i x) refl
+    h
 wired-kept m other a x basis h = fit-bus a.state
     (was-wired (bus_change x) a.state.bus refl) refl refl h

@@ -12,22 +12,31 @@ use Rattle.gb_base.specs.declared.entry.ConnState.TheVariants as state
 use Rattle.gb_base.specs.declared.entry.Entry.TheVariants as entry
 use Rattle.gb_base.specs.declared.outcome.Outcome.TheVariants as outcome
 use Rattle.gb_base.specs.declared.outcome.Outcome.{Outcome}
+use Rattle.gb_base.specs.declared.download.Next.{Next}
+use Rattle.gb_base.specs.declared.download.Next.TheVariants as next
+use Rattle.gb_formats.specs.Module.{Module}
+use Rattle.gb_formats.specs.ModuleLoads.{ModuleLoaded, module_ended, module_fail, tag_at}
 use Rattle.gb_formats.specs.{Grammar.default_timeout}
 use Rattle.gb_machine.proofs.{Opened.machine_opened}
 use Rattle.gb_machine.specs.Actions.{Action, change, each, given, nothing, on_host, tell, when, ◌▸◌}
 use Rattle.gb_machine.specs.Asking.{asked, asks, asks_with}
-use Rattle.gb_machine.specs.Bus.{Bus, Connection, Item, Request, connection_of, next_number}
+use Rattle.gb_machine.specs.Bus.{Bus, Connection, Item, Place, Request, connection_of, next_number}
 use Rattle.gb_machine.specs.Bus.{request_of}
 use Rattle.gb_machine.specs.HostActs.{acts, asked_with, fails, host_asks, host_draft, host_opens}
-use Rattle.gb_machine.specs.HostActs.{idles, idles_behind, notices, opened_with, with_awaited}
-use Rattle.gb_machine.specs.HostActs.{with_made}
+use Rattle.gb_machine.specs.HostActs.{host_follows, idles, idles_behind, notices, opened_with}
+use Rattle.gb_machine.specs.HostActs.{with_awaited, with_made}
 use Rattle.gb_machine.specs.HostActs as acting
+use Rattle.gb_machine.specs.Loading.{asks_at, asks_next, goes_on, load_ended, load_follows, load_of}
+use Rattle.gb_machine.specs.Loading.{with_done, with_failed, with_next}
+use Rattle.gb_machine.specs.Modules.{module_at}
+use Rattle.gb_machine.specs.Refusals.{module_place}
 use Rattle.gb_machine.specs.Sending.{Draft, draft, is_wired, label_for, sent}
 use Rattle.gb_machine.specs.Turns.{Act, Asking, Making}
 use Rattle.gb_machine.specs.{Failures.unsent, HostTurns.host_turn, Labels.next_label}
 use Rattle.gb_machine.specs.{LawsHotPlug.is_consequence, Members.Each, Members.IsIn}
 use Rattle.gb_machine.specs.{OwnAsking.far_asks, OwnAsking.far_asks_all, Requests.open_on}
-use Rattle.gb_machine.specs.{State.State, Wires.disconnected_told, Wiring.next_connection}
+use Rattle.gb_machine.specs.{State.Load, State.State, Wires.disconnected_told}
+use Rattle.gb_machine.specs.{Wiring.next_connection}
 use Rattle.gb_machine.specs.Requests.{is_idle, same_side}
 use Rattle.gb_invariants.proofs.{Awaiting.none-some, Awaiting.same-some, BusChanges.BusChange}
 use Rattle.gb_invariants.proofs.{BusChanges.bus_after, Lists.each-append, Lists.each-weaker}
@@ -126,17 +135,81 @@ module _ (aim : Taking) where
             (left-by (BusChange.sends d label) s.bus tt (λ e. none-some e) h),
       )
 
-  -- a module's requests, one after another
+  -- a module's request
+  follows-far_asks : (n : ℕ) (x : OwnAsk) (s : State) → Follows (far_asks n x) s
+  unfolding machine_opened
+  follows-far_asks n x s =
+      let d = draft n side.Far x.kind x.payload (s.now + default_timeout) x.oneway in
+      follows-when (is_wired (connection_of n s.bus)) (asks d) s (follows-asks d s)
+
+  -- its requests, one after another
   pub follows-far_asks_all : (n : ℕ) (own : List OwnAsk) (s : State)
       → Follows (far_asks_all n own) s
   unfolding machine_opened
   follows-far_asks_all n [] s = follows-nothing s
   follows-far_asks_all n (x ∷ xs) s =
-      follows-▸ (far_asks n x) (each xs (far_asks n))
-      (follows-when (is_wired (connection_of n s.bus))
-      (asks (draft n side.Far x.kind x.payload (s.now + default_timeout) x.oneway)) s
-      (follows-asks (draft n side.Far x.kind x.payload (s.now + default_timeout) x.oneway) s))
+      follows-▸ (far_asks n x) (each xs (far_asks n)) (follows-far_asks n x s)
       (follows-far_asks_all n xs (far_asks n x s).state)
+
+  -- ---- downloads
+
+  -- modules change, and the end of a download is told
+  follows-download : (f : State → State) (i c : ℕ) (tag : List ℕ) (size : Option ℕ) (s : State)
+      → (f s).bus ≡ s.bus → Follows (change f ▸ tell (entry.Download i c tag size)) s
+  follows-download f i c tag size s same =
+      follows-▸ (change f) (tell (entry.Download i c tag size)) {s = s} (follows-change f s same)
+      (follows-tell (entry.Download i c tag size) (change f s).state (aim.follows _ refl))
+
+  follows-next : (o : Option ℕ) (k i c : ℕ) (own : OwnAsk) (x : Module) (s : State)
+      → Follows (asks_next o k i c own x) s
+  unfolding machine_opened
+  follows-next None k i c own x s =
+      follows-download (with_failed i (module_fail x c)) i c (tag_at x c) None s refl
+  follows-next (Some label) k i c own x s =
+      follows-▸ (far_asks k own) (change (with_next i c (next_number s.bus) x)) {s = s}
+      (follows-far_asks k own s)
+      (follows-change (with_next i c (next_number s.bus) x) (far_asks k own s).state refl)
+
+  follows-goes_on : (i c : ℕ) (what : Next) (x : Module) (s : State)
+      → Follows (goes_on i c what x) s
+  unfolding machine_opened
+  follows-goes_on i c (next.Ask own) x s = by (module_place i c s)
+    where
+      by : (o : Option Place) → Follows (asks_at o i c own x) s
+      by None = follows-download (with_failed i (module_fail x c)) i c (tag_at x c) None s refl
+      by (Some p) = follows-next (next_label p.connection.number side.Far s.bus)
+          p.connection.number i c own x s
+  follows-goes_on i c (next.Done tag size) x s =
+      follows-download (with_done i c x) i c tag (Some size) s refl
+  follows-goes_on i c (next.Failed tag) x s =
+      follows-download (with_failed i x) i c tag None s refl
+
+  -- A request ended, for which a download may wait.
+  follows-load : (n : ℕ) (how : Outcome) (s : State) → Follows (load_follows n how) s
+  unfolding machine_opened
+  follows-load n how s = by (load_of n s.loads)
+    where
+      goes : (l : Load) (o : Option ModuleLoaded)
+          → Follows (given o (λ t. goes_on l.intf l.cport t.next t.after)) s
+      goes l None = follows-nothing s
+      goes l (Some t) = follows-goes_on l.intf l.cport t.next t.after s
+
+      ended : (l : Load) (o : Option Module) → Follows (given o (λ m. given
+          (module_ended m l.cport how) (λ t. goes_on l.intf l.cport t.next t.after))) s
+      ended l None = follows-nothing s
+      ended l (Some m) = goes l (module_ended m l.cport how)
+
+      by : (o : Option Load) → Follows (given o (load_ended how)) s
+      by None = follows-nothing s
+      by (Some l) = ended l (module_at l.intf s.modules)
+
+  pub follows-loads : (how : Outcome) (ns : List ℕ) (s : State)
+      → Follows (each ns (λ n. load_follows n how)) s
+  unfolding machine_opened
+  follows-loads how [] s = follows-nothing s
+  follows-loads how (n ∷ ns) s =
+      follows-▸ (load_follows n how) (each ns (λ k. load_follows k how)) {s = s}
+      (follows-load n how s) (follows-loads how ns (load_follows n how s).state)
 
   -- ---- acts
 
@@ -224,6 +297,8 @@ module _ (aim : Taking) where
       → Follows (acting.follows n how) s
   unfolding machine_opened
   follows-ended n how s stays =
-      follows-▸ (notices (host_event.Ended n how)) (given (request_of n s.bus) idles_behind) {s = s}
-      (follows-notice (at_event (host_event.Ended n how)) s stays)
-      (follows-idles_behind (request_of n s.bus) (notices (host_event.Ended n how) s).state)
+      follows-▸ (host_follows n how) (load_follows n how) {s = s}
+      (follows-▸ (notices (host_event.Ended n how)) (given (request_of n s.bus) idles_behind)
+      {s = s} (follows-notice (at_event (host_event.Ended n how)) s stays)
+      (follows-idles_behind (request_of n s.bus) (notices (host_event.Ended n how) s).state))
+      (follows-load n how (host_follows n how s).state)

@@ -4,10 +4,12 @@ use Rattle.std.specs.List.{list_any}
 use Rattle.gb_base.specs.declared.entry.Entry.{Entry}
 use Rattle.gb_base.specs.declared.end.Side.TheVariants as side
 use Rattle.gb_base.specs.declared.host_event.HostEvent.{HostEvent}
+use Rattle.gb_base.specs.declared.outcome.Outcome.TheVariants as outcome
 use Rattle.gb_formats.specs.{Module.Module, ModuleSteps.module_serve}
 use Rattle.gb_machine.proofs.{Opened.machine_opened}
-use Rattle.gb_machine.specs.Actions.{change, given, on_host, tell, ◌▸◌}
-use Rattle.gb_machine.specs.Responding.{Response, creates, destroys, module_response}
+use Rattle.gb_machine.specs.Actions.{change, each, given, on_host, tell, ◌▸◌}
+use Rattle.gb_machine.specs.Loading.{load_follows}
+use Rattle.gb_machine.specs.Responding.{Response, creates, destroys, disconnects, module_response}
 use Rattle.gb_machine.specs.Responding.{responds_plainly, responds_with, svc_decided, with_ports}
 use Rattle.gb_machine.specs.Serving.{invalid, nonexistent, plainly, success}
 use Rattle.gb_machine.specs.SvcTable.{Answered, Create, Destroy, SvcServed, Unroute}
@@ -18,7 +20,7 @@ use Rattle.gb_machine.specs.{State.State, Wires.unwires, Wires.wires}
 use Rattle.gb_machine.specs.{Wiring.is_wired_to, Wiring.joining}
 use Rattle.gb_invariants.proofs.{Awaiting.none-some, Awaiting.same-some, BusChanges.BusChange}
 use Rattle.gb_laws.proofs.taking.TakenActs.{Follows, Taking, ends-follow, follows-change}
-use Rattle.gb_laws.proofs.taking.TakenActs.{follows-far_asks_all, follows-nothing}
+use Rattle.gb_laws.proofs.taking.TakenActs.{follows-far_asks_all, follows-loads, follows-nothing}
 use Rattle.gb_laws.proofs.taking.TakenActs.{follows-tell, follows-▸, left-by, tells-follow}
 
 module _ (aim : Taking) where
@@ -87,6 +89,14 @@ module _ (aim : Taking) where
         (λ e. other (same-some k aim.number e)) l,
   )
 
+  follows-disconnects : (k : ℕ) (u : State) → (k ≡ aim.number → ⊥) → Follows aim (disconnects k) u
+  unfolding machine_opened
+  follows-disconnects k u other =
+      follows-▸ aim (unwires k)
+      (each (open_on k side.Far u.bus) (λ n. load_follows n outcome.Disconnected)) {s = u}
+      (follows-unwires k u other)
+      (follows-loads aim outcome.Disconnected (open_on k side.Far u.bus) (unwires k u).state)
+
   follows-creates : (o : Option Connection) (u : State) → Follows aim (creates o).behind u
   follows-creates None u = follows-nothing aim u
   follows-creates (Some x) u = either x.wired (responds_plainly invalid)
@@ -98,8 +108,8 @@ module _ (aim : Taking) where
       → Follows aim (destroys o).behind u
   follows-destroys None u other = follows-nothing aim u
   follows-destroys (Some x) u other =
-      either x.wired (responds_with (plainly success) (unwires x.number))
-      (responds_plainly nonexistent) u (λ e. follows-unwires x.number u (other x refl e))
+      either x.wired (responds_with (plainly success) (disconnects x.number))
+      (responds_plainly nonexistent) u (λ e. follows-disconnects x.number u (other x refl e))
       (λ e. follows-nothing aim u)
 
   -- where no connection of a module that it unwires is the one

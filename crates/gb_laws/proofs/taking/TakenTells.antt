@@ -14,8 +14,8 @@ use Rattle.gb_formats.specs.{SvcRecords.read_svc_ask_of_svc, UartDevice.credits_
 use Rattle.gb_formats.specs.{UartRecords.UartAsk, UartRecords.read_uart_ask_of_module}
 use Rattle.gb_machine.specs.Bus.{Bus, Item, Place}
 use Rattle.gb_machine.specs.HostServing.{HostServed, credited, host_refuses, interrupted}
-use Rattle.gb_machine.specs.HostServing.{notified_by, served_on, serves_gpio, serves_uart}
-use Rattle.gb_machine.specs.HostServing.{uart_notified_by}
+use Rattle.gb_machine.specs.HostServing.{notified_by, served_on, serves_firmware, serves_gpio}
+use Rattle.gb_machine.specs.HostServing.{serves_uart, uart_notified_by}
 use Rattle.gb_machine.specs.HostTurns.{links_left, links_of}
 use Rattle.gb_machine.specs.{Failures.unsent, Host.Host, LawsHotPlug.IsToldOf}
 use Rattle.gb_machine.specs.{LawsHotPlug.is_consequence, Members.Each, Serving.protocol_bad}
@@ -152,5 +152,7 @@ heard None kind payload h = heard-svc h (read_svc_ask_of_svc kind payload)
 heard (Some l) kind payload h =
     heard-if l h (l.protocol == 0x02) (serves_gpio l kind payload h) _
     (heard-gpio h l (read_gpio_ask_of_module kind payload))
-    (heard-if l h (l.protocol == 0x04) (serves_uart l kind payload h) (host_refuses protocol_bad h)
-    (heard-uart h l (read_uart_ask_of_module kind payload)) (tt, refl))
+    (heard-if l h (l.protocol == 0x04) (serves_uart l kind payload h) _
+    (heard-uart h l (read_uart_ask_of_module kind payload))
+    (heard-if l h (l.protocol == 0x17) (serves_firmware l kind payload h)
+    (host_refuses protocol_bad h) (tt, refl) (tt, refl)))

@@ -67,6 +67,7 @@ kind-short kinds.Spi = omega arith
 kind-short kinds.Uart = omega arith
 kind-short kinds.Bridge = omega arith
 kind-short kinds.Loopback = omega arith
+kind-short kinds.Firmware = omega arith
 
 pub raw-short : (s : State) (i : ℕ) (manifest : List ℕ)
     → refusal s (event.InsertRaw i manifest) ≡ None

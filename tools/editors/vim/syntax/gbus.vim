@@ -4,7 +4,7 @@ if exists('b:current_syntax')
 endif
 syntax match gbusError /\v^.*[^ \r].*$/
 syntax match gbusLine /\v^ *%(boot) *\r{0,1}$/ contains=@gbusWord
-syntax match gbusLine /\v^ *%(insert) +%([2-9]|[12][0-9]|3[01]) +%(gpio|i2c|spi|uart|bridge|loopback)%( +%(gpio|i2c|spi|uart|bridge|loopback)){0,1}%( +%(gpio|i2c|spi|uart|bridge|loopback)){0,1}%( +%(gpio|i2c|spi|uart|bridge|loopback)){0,1} *\r{0,1}$/ contains=@gbusWord
+syntax match gbusLine /\v^ *%(insert) +%([2-9]|[12][0-9]|3[01]) +%(gpio|i2c|spi|uart|bridge|loopback|firmware)%( +%(gpio|i2c|spi|uart|bridge|loopback|firmware)){0,1}%( +%(gpio|i2c|spi|uart|bridge|loopback|firmware)){0,1}%( +%(gpio|i2c|spi|uart|bridge|loopback|firmware)){0,1} *\r{0,1}$/ contains=@gbusWord
 syntax match gbusLine /\v^ *%(insert) +%([2-9]|[12][0-9]|3[01]) +%(raw) +%(-|%([0-9A-Fa-f]{2})+) *\r{0,1}$/ contains=@gbusWord
 syntax match gbusLine /\v^ *%(pull) +%([2-9]|[12][0-9]|3[01]) *\r{0,1}$/ contains=@gbusWord
 syntax match gbusLine /\v^ *%(connect) +%([2-9]|[12][0-9]|3[01]) +%(0|[1-9][0-9]{0,2}|[1-3][0-9]{3}|40[0-8][0-9]|409[0-5]) *\r{0,1}$/ contains=@gbusWord
@@ -28,6 +28,8 @@ syntax match gbusLine /\v^ *%(uart) +%([@][a-z0-9]{1,16}) +%([2-9]|[12][0-9]|3[0
 syntax match gbusLine /\v^ *%(uart) +%([2-9]|[12][0-9]|3[01]) +%(0|[1-9][0-9]{0,2}|[1-3][0-9]{3}|40[0-8][0-9]|409[0-5]) +%(state) +%(0|[1-9][0-9]{0,1}|1[0-9]{2}|2[0-4][0-9]|25[0-5]) *\r{0,1}$/ contains=@gbusWord
 syntax match gbusLine /\v^ *%(loopback) +%([@][a-z0-9]{1,16}) +%([2-9]|[12][0-9]|3[01]) +%(0|[1-9][0-9]{0,2}|[1-3][0-9]{3}|40[0-8][0-9]|409[0-5]) +%(ping) *\r{0,1}$/ contains=@gbusWord
 syntax match gbusLine /\v^ *%(loopback) +%([@][a-z0-9]{1,16}) +%([2-9]|[12][0-9]|3[01]) +%(0|[1-9][0-9]{0,2}|[1-3][0-9]{3}|40[0-8][0-9]|409[0-5]) +%(transfer|sink) +%(-|%([0-9A-Fa-f]{2})+) *\r{0,1}$/ contains=@gbusWord
+syntax match gbusLine /\v^ *%(image) +%([a-z0-9]{1,9}) +%(-|%([0-9A-Fa-f]{2})+) *\r{0,1}$/ contains=@gbusWord
+syntax match gbusLine /\v^ *%(load) +%([2-9]|[12][0-9]|3[01]) +%(0|[1-9][0-9]{0,2}|[1-3][0-9]{3}|40[0-8][0-9]|409[0-5]) +%([a-z0-9]{1,9}) *\r{0,1}$/ contains=@gbusWord
 syntax match gbusLine /\v^ *%(deliver) +%(svc) *\r{0,1}$/ contains=@gbusWord
 syntax match gbusLine /\v^ *%(deliver) +%(ap) +%(0|[1-9][0-9]{0,2}|[1-3][0-9]{3}|40[0-8][0-9]|409[0-5]) *\r{0,1}$/ contains=@gbusWord
 syntax match gbusLine /\v^ *%(deliver) +%([2-9]|[12][0-9]|3[01]) +%(0|[1-9][0-9]{0,2}|[1-3][0-9]{3}|40[0-8][0-9]|409[0-5]) *\r{0,1}$/ contains=@gbusWord
@@ -46,7 +48,7 @@ syntax match gbusHex /\v<[0-9A-Fa-f]+>|-/ contained
 syntax match gbusNumber /\v<[0-9]+>/ contained
 syntax match gbusName /\v[@][a-z0-9]+/ contained
 syntax match gbusOp /\v<[rwx]:/ contained
-syntax match gbusKey /\v<%(gpio|i2c|spi|uart|bridge|loopback|raw|drain|svc|ping|timeout|count|activate|deactivate|direction|in|get|mask|unmask|out|set|irq|debounce|level|functionality|transfer|config|device|send|coding|control|break|flush|state|sink|ap)>/ contained
+syntax match gbusKey /\v<%(gpio|i2c|spi|uart|bridge|loopback|firmware|raw|drain|svc|ping|timeout|count|activate|deactivate|direction|in|get|mask|unmask|out|set|irq|debounce|level|functionality|transfer|config|device|send|coding|control|break|flush|state|sink|ap)>/ contained
 syntax match gbusEvent /\v^ *[a-z0-9]+/ contained
 syntax cluster gbusWord contains=gbusHex,gbusNumber,gbusName,gbusOp,gbusKey,gbusEvent
 highlight default link gbusError Error
