@@ -1,6 +1,7 @@
 -- What the machine's step is for each event, one equation for each way that it goes.
-use Rattle.std.proofs.Common.{◌≡◌, ℕ, suc, ◌+◌, true, false, if◌then◌else◌, Some, None}
-use Rattle.std.proofs.Common.{is_none, List, [], ◌∷◌, ◌++◌, refl, ap, ◌∙◌}
+use Rattle.std.proofs.Common.{◌≡◌, ℕ, suc, ◌+◌, Bool, true, false, if◌then◌else◌, Option, Some}
+use Rattle.std.proofs.Common.{None, is_none, List, [], ◌∷◌, ◌++◌, append-nil, refl, sym, ap, ◌∙◌}
+use Rattle.gb_base.specs.declared.bridge.Reading.TheVariants as reading
 use Rattle.gb_base.specs.declared.end.End.{End}
 use Rattle.gb_base.specs.declared.end.Side.{Side}
 use Rattle.gb_base.specs.declared.end.Side.TheVariants as side
@@ -8,24 +9,49 @@ use Rattle.gb_base.specs.declared.entry.Entry.{Entry}
 use Rattle.gb_base.specs.declared.entry.Entry.TheVariants as entry
 use Rattle.gb_base.specs.declared.event.Event.{Event}
 use Rattle.gb_base.specs.declared.event.Event.TheVariants as event
+use Rattle.gb_base.specs.declared.host_event.HostEvent.{HostEvent}
+use Rattle.gb_base.specs.declared.host_event.HostEvent.TheVariants as host_event
+use Rattle.gb_base.specs.declared.outcome.Outcome.{Outcome}
+use Rattle.gb_base.specs.declared.outcome.Outcome.TheVariants as outcome
+use Rattle.gb_base.specs.declared.peers.Link.{Link}
 use Rattle.gb_base.specs.declared.refusal.Refusal.{Refusal}
+use Rattle.gb_base.specs.declared.served.OwnAsk.{OwnAsk}
+use Rattle.gb_base.specs.declared.steps.Purpose.{Purpose}
+use Rattle.gb_formats.specs.Grammar.{default_timeout}
+use Rattle.gb_formats.specs.Loader.{find_ask}
+use Rattle.gb_formats.specs.Module.{Module}
+use Rattle.gb_formats.specs.ModuleLoads.{module_load}
 use Rattle.gb_machine.proofs.Opened.{machine_opened}
 use Rattle.gb_machine.proofs.Conditions.{unrefused}
-use Rattle.gb_machine.specs.Actions.{Told, by_state, given, on_bus, tell, ◌▸◌}
+use Rattle.gb_machine.specs.Actions.{Action, Told, by_state, change, each, given, on_bus, tell}
+use Rattle.gb_machine.specs.Actions.{when, ◌▸◌}
 use Rattle.gb_machine.specs.Arriving.{arrives, asked_at, by_label, by_number, delivers, delivers_at}
 use Rattle.gb_machine.specs.Arriving.{dropped, ends_answered, forgets, handles, is_held}
 use Rattle.gb_machine.specs.Arriving.{keeps, takes}
+use Rattle.gb_machine.specs.Asking.{asked, asks, asks_with}
 use Rattle.gb_machine.specs.Bus.{Ask, Bus, Connection, Item, Place, Reply, Request}
-use Rattle.gb_machine.specs.Bus.{is_open, place_of, queue, request_of}
+use Rattle.gb_machine.specs.Bus.{connection_of, is_open, next_number, place_of, queue, request_of}
 use Rattle.gb_machine.specs.Delivery.{forgotten, popped}
 use Rattle.gb_machine.specs.Events.{decided, does, step}
+use Rattle.gb_machine.specs.Host.{link_at}
+use Rattle.gb_machine.specs.HostActs.{acts, asked_with, host_asks, host_draft, host_follows}
+use Rattle.gb_machine.specs.HostActs.{idles, idles_behind, made_for, notices, opened_with}
+use Rattle.gb_machine.specs.HostActs.{with_awaited, with_made}
+use Rattle.gb_machine.specs.HostTurns.{host_turn}
 use Rattle.gb_machine.specs.Incoming.{incoming}
+use Rattle.gb_machine.specs.Labels.{next_label}
 use Rattle.gb_machine.specs.Lists.{first, holds_of}
-use Rattle.gb_machine.specs.Names.{named}
+use Rattle.gb_machine.specs.Loading.{asks_next, begins, with_begun, with_next}
+use Rattle.gb_machine.specs.OwnAsking.{far_asks}
 use Rattle.gb_machine.specs.Refusals.{deliver_conditions, has_nothing, is_end_unplugged, refusal}
+use Rattle.gb_machine.specs.Requests.{is_idle, same_side}
 use Rattle.gb_machine.specs.Responding.{serves}
+use Rattle.gb_machine.specs.Sending.{Draft, draft, is_wired, label_for, sent}
+use Rattle.gb_machine.specs.SequenceSteps.{is_for_connection}
 use Rattle.gb_machine.specs.Settling.{settles_at, settles_from}
-use Rattle.gb_machine.specs.State.{State}
+use Rattle.gb_machine.specs.State.{Load, Past, Plugged, State}
+use Rattle.gb_machine.specs.Turns.{Act, Asking}
+use Rattle.gb_machine.specs.Waits.{awaits}
 use Rattle.gb_machine.specs.Waiting.{first_waiting}
 
 -- a state and entries
@@ -203,6 +229,160 @@ pub settles-end : (s : State) (done : ℕ) → settles_from 0 done s ≡ told s 
 unfolding machine_opened
 settles-end s done = refl
 
--- ---- names
+-- ---- firmware downloads
 
--- ---- cancels
+-- the state with other modules, last requests of firmware devices and past
+abbrev pub beside : List Plugged → List Load → Past → State → State
+beside ms ls p s = record s { modules = ms; loads = ls; past = p }
+
+-- what a request that is made changes, and tells, is a matter of the bus alone
+asks-beside : (d : Draft) (ms : List Plugged) (ls : List Load) (p : Past) (s : State)
+    → asks d (beside ms ls p s)
+    ≡ told (with_bus (asks d s).state.bus (beside ms ls p s)) (asks d s).entries
+unfolding machine_opened
+asks-beside d ms ls p s = by (connection_of d.connection s.bus) (label_for d s.bus)
+  where
+    at : Option Connection → Option ℕ → State → Told
+    at c l = given c (λ c. given l (λ label. asks_with d c label))
+
+    oneway : (t : Bool) (e f : Entry) (b : Bus)
+        → (on_bus (λ a. b) ▸ tell e ▸ when t (tell f)) (beside ms ls p s)
+        ≡ told (with_bus ((on_bus (λ a. b) ▸ tell e ▸ when t (tell f)) s).state.bus
+        (beside ms ls p s)) ((on_bus (λ a. b) ▸ tell e ▸ when t (tell f)) s).entries
+    oneway true e f b = refl
+    oneway false e f b = refl
+
+    by : (c : Option Connection) (l : Option ℕ) → at c l (beside ms ls p s)
+        ≡ told (with_bus (at c l s).state.bus (beside ms ls p s)) (at c l s).entries
+    by None l = refl
+    by (Some c) None = refl
+    by (Some c) (Some label) =
+        oneway d.oneway (asked d c label s.bus)
+        (entry.Ended (next_number s.bus) outcome.Sent reading.Nothing) (sent d label s.bus)
+
+far_asks-beside : (k : ℕ) (own : OwnAsk) (ms : List Plugged) (ls : List Load) (p : Past)
+    (s : State) → far_asks k own (beside ms ls p s)
+    ≡ told (with_bus (far_asks k own s).state.bus (beside ms ls p s)) (far_asks k own s).entries
+unfolding machine_opened
+far_asks-beside k own ms ls p s = by (is_wired (connection_of k s.bus))
+  where
+    ask : Action
+    ask = asks (draft k side.Far own.kind own.payload (s.now + default_timeout) own.oneway)
+
+    by : (t : Bool) → when t ask (beside ms ls p s)
+        ≡ told (with_bus (when t ask s).state.bus (beside ms ls p s)) (when t ask s).entries
+    by true = asks-beside
+        (draft k side.Far own.kind own.payload (s.now + default_timeout) own.oneway) ms ls p s
+    by false = refl
+
+-- so such a change behind a request of a far side might be made before it
+changed-first : (k : ℕ) (own : OwnAsk) (f : State → State) (ms : List Plugged) (ls : List Load)
+    (p : Past) (s : State) → ((b : Bus) → f (with_bus b s) ≡ beside ms ls p (with_bus b s))
+    → (far_asks k own ▸ change f) s ≡ far_asks k own (beside ms ls p s)
+unfolding machine_opened
+changed-first k own f ms ls p s same =
+    let t = far_asks k own s in
+    ap (λ (w : Told). told (f w.state) (t.entries ++ []))
+    (far_asks-beside k own s.modules s.loads s.past s)
+    ∙ ap (λ u. told u (t.entries ++ [])) (same t.state.bus)
+    ∙ ap (told (beside ms ls p (with_bus t.state.bus s))) (append-nil t.entries)
+    ∙ sym (far_asks-beside k own ms ls p s)
+
+-- a download that begins changes the module, and then asks
+pub begins-first : (i c : ℕ) (tag : List ℕ) (k : ℕ) (m : Module) (s : State)
+    → begins i c tag k m s
+    ≡ far_asks k (find_ask tag) (with_begun i c k (next_number s.bus) (module_load m c tag) s)
+unfolding machine_opened
+begins-first i c tag k m s =
+    let n = next_number s.bus in
+    let t = with_begun i c k n (module_load m c tag) s in
+    changed-first k (find_ask tag) (with_begun i c k n (module_load m c tag)) t.modules t.loads
+    t.past s (λ b. refl)
+
+-- and so does one that goes on
+pub asks_next-first : (label k i c : ℕ) (own : OwnAsk) (m : Module) (s : State)
+    → asks_next (Some label) k i c own m s
+    ≡ far_asks k own (with_next i c (next_number s.bus) m s)
+unfolding machine_opened
+asks_next-first label k i c own m s =
+    let n = next_number s.bus in
+    let t = with_next i c n m s in
+    changed-first k own (with_next i c n m) t.modules t.loads t.past s (λ b. refl)
+
+-- what the application processor does leaves the last requests of firmware devices
+asks-loads : (d : Draft) (s : State) → (asks d s).state.loads ≡ s.loads
+asks-loads d s =
+    ap (λ (t : Told). t.state.loads) (asks-beside d s.modules s.loads s.past s)
+
+awaited-loads : (p : Purpose) (n : ℕ) (s : State) → (with_awaited p n s).loads ≡ s.loads
+awaited-loads p n s = by (is_for_connection p.step)
+  where
+    t : State
+    t = record s { host = awaits p n s.host }
+
+    made : (o : Option Link) → (made_for n o t).loads ≡ s.loads
+    made None = refl
+    made (Some l) = refl
+
+    by : (b : Bool)
+        → (if b then made_for n (link_at p.intf p.cport t.host) t else t).loads ≡ s.loads
+    by true = made (link_at p.intf p.cport t.host)
+    by false = refl
+
+host_asks-loads : (q : Asking) (s : State) → (host_asks q s).state.loads ≡ s.loads
+unfolding machine_opened
+host_asks-loads q s = by (next_label q.on side.Ap s.bus)
+  where
+    by : (o : Option ℕ) → (asked_with o q s).state.loads ≡ s.loads
+    by None = refl
+    by (Some label) =
+        awaited-loads q.purpose (next_number s.bus) (asks (host_draft q s.now) s).state
+        ∙ asks-loads (host_draft q s.now) s
+
+act-loads : (a : Act) (s : State) → (acts a s).state.loads ≡ s.loads
+unfolding machine_opened
+act-loads (Act.Ask q) s = host_asks-loads q s
+act-loads (Act.Open m q) s = by (next_label q.on side.Ap s.bus)
+  where
+    by : (o : Option ℕ) → (opened_with o m q s).state.loads ≡ s.loads
+    by None = refl
+    by (Some label) = host_asks-loads q (with_made m s)
+act-loads (Act.Shut k) s = refl
+act-loads (Act.Leave k) s = refl
+act-loads (Act.Tell e) s = refl
+
+acts-loads : (all : List Act) (s : State) → (each all acts s).state.loads ≡ s.loads
+unfolding machine_opened
+acts-loads [] s = refl
+acts-loads (a ∷ all) s = acts-loads all (acts a s).state ∙ act-loads a s
+
+notices-loads : (e : HostEvent) (s : State) → (notices e s).state.loads ≡ s.loads
+unfolding machine_opened
+notices-loads e s =
+    let t = host_turn e s.host in acts-loads t.acts (record s { host = t.host })
+
+idles-loads : (k : ℕ) (s : State) → (idles k s).state.loads ≡ s.loads
+unfolding machine_opened
+idles-loads k s = by (is_idle k s.bus)
+  where
+    by : (b : Bool) → (when b (notices (host_event.Idle k)) s).state.loads ≡ s.loads
+    by true = notices-loads (host_event.Idle k) s
+    by false = refl
+
+pub host_follows-loads : (n : ℕ) (how : Outcome) (s : State)
+    → (host_follows n how s).state.loads ≡ s.loads
+unfolding machine_opened
+host_follows-loads n how s =
+    by (request_of n s.bus) ∙ notices-loads e s
+  where
+    e : HostEvent
+    e = host_event.Ended n how
+
+    behind : (b : Bool) (k : ℕ) (t : State) → (when b (idles k) t).state.loads ≡ t.loads
+    behind true k t = idles-loads k t
+    behind false k t = refl
+
+    by : (o : Option Request)
+        → (given o idles_behind (notices e s).state).state.loads ≡ (notices e s).state.loads
+    by None = refl
+    by (Some r) = behind (same_side side.Ap r.side) r.connection (notices e s).state

@@ -105,6 +105,7 @@ unwire-done {x} {s} {a} {b} y holds held k now st ends marks lost appended =
           (held-elsewhere k s.held) ends.stands;
       ports = st.ports;
       modules = st.modules;
+      loads = st.loads;
       host = st.host;
       names = st.names;
       apart = st.apart;

@@ -11,6 +11,7 @@ use Rattle.gb_base.specs.declared.peers.Link.{Link}
 use Rattle.gb_bus.specs.Delivering.{MayReply, taken_from}
 use Rattle.gb_bus.specs.declared.answers.Asked.{Asked}
 use Rattle.gb_formats.specs.GpioRecords.{GpioAsk, read_gpio_ask_of_module}
+use Rattle.gb_formats.specs.Images.{Images}
 use Rattle.gb_formats.specs.Records.{PayloadFault}
 use Rattle.gb_formats.specs.Results.{most_payload}
 use Rattle.gb_formats.specs.SvcRecords.{SvcAsk, read_svc_ask_of_svc}
@@ -28,8 +29,8 @@ use Rattle.gb_machine.specs.Delivery.{replied}
 use Rattle.gb_machine.specs.Host.{Host, link_of}
 use Rattle.gb_machine.specs.HostActs.{notices}
 use Rattle.gb_machine.specs.HostServing.{HostServed, credited, host_refuses, host_serves}
-use Rattle.gb_machine.specs.HostServing.{interrupted, notified_by, served_on, serves_gpio}
-use Rattle.gb_machine.specs.HostServing.{serves_uart, uart_notified_by}
+use Rattle.gb_machine.specs.HostServing.{interrupted, notified_by, served_on, serves_firmware}
+use Rattle.gb_machine.specs.HostServing.{serves_gpio, serves_uart, uart_notified_by}
 use Rattle.gb_machine.specs.Incoming.{Incoming, reply_item}
 use Rattle.gb_machine.specs.Responding.{host_behind, host_served, replies, responds, serves}
 use Rattle.gb_machine.specs.Responding.{serves_oneway}
@@ -38,6 +39,7 @@ use Rattle.gb_machine.specs.State.{State}
 use Rattle.gb_system.proofs.Doings.{does-as, does-given, does-given_none, does-is, does-tell}
 use Rattle.gb_system.proofs.Doings.{does-then}
 use Rattle.gb_system.proofs.Heard.{may-reply, request-sound}
+use Rattle.gb_system.proofs.ImageFits.{images_lent}
 use Rattle.gb_system.proofs.Replies.{responds-twoway}
 use Rattle.gb_system.proofs.Standing.{let-gone, rehosted}
 use Rattle.gb_system.specs.Acting.{MayTurn}
@@ -49,13 +51,15 @@ use Rattle.gb_system.specs.declared.parties.Parties.{Parties}
 
 -- ---- what is refused changes nothing
 
--- The application processor is as before where the answer isn't success, and the answer is short.
+-- The application processor is as before where the answer isn't success, and the answer fits into a
+-- message.
 record IsFair (h : Host) (r : HostServed) : Type 0 where
   keeps : (r.answer.result == success) ≡ false → r.host ≡ h
-  brief : length r.answer.payload ≤ 2
+  fits : length r.answer.payload ≤ most_payload
 
-fair : {h : Host} (r : HostServed) → r.host ≡ h → length r.answer.payload ≤ 2 → IsFair h r
-fair r same brief = record { keeps = λ e. same; brief = brief }
+fair : {h : Host} (r : HostServed) → r.host ≡ h → length r.answer.payload ≤ most_payload
+    → IsFair h r
+fair r same fits = record { keeps = λ e. same; fits = fits }
 
 fair-if : (h : Host) (t : Bool) (x y : HostServed) → IsFair h x → IsFair h y
     → IsFair h (cond t x y)
@@ -79,7 +83,7 @@ fair-credits : (h : Host) (l : Link) (o : Option ℕ) → IsFair h (credited l o
 fair-credits h l None = fair _ refl (omega arith)
 fair-credits h l (Some total) = record {
   keeps = λ e. absurd (let f : true ≡ false = e in cc);
-  brief = omega arith;
+  fits = omega arith;
 }
 
 fair-uart : (h : Host) (l : Link) (r : Result UartAsk PayloadFault)
@@ -91,6 +95,14 @@ fair-uart h l (Ok (UartAsk.ReceiveCredits count)) =
     fair-credits h l (credits_added l.credits count)
 fair-uart h l (Ok _) = fair _ refl (omega arith)
 
+fair-firmware : (h : Host) (l : Link) (kind : ℕ) (payload : List ℕ)
+    → IsFair h (serves_firmware l kind payload h)
+fair-firmware h l kind payload =
+    let lent = images_lent l.connection kind payload h.images in record {
+      keeps = λ e. ap (λ (x : Images). record h { images = x }) (lent.keeps e);
+      fits = lent.fits;
+    }
+
 serves-fair : (k kind : ℕ) (payload : List ℕ) (h : Host) → IsFair h (host_serves k kind payload h)
 serves-fair k kind payload h = by (link_of k h)
   where
@@ -99,17 +111,18 @@ serves-fair k kind payload h = by (link_of k h)
     by (Some l) =
         fair-if h (l.protocol == 0x02) (serves_gpio l kind payload h) _
         (fair-gpio h l (read_gpio_ask_of_module kind payload))
-        (fair-if h (l.protocol == 0x04) (serves_uart l kind payload h) (host_refuses _ h)
-        (fair-uart h l (read_uart_ask_of_module kind payload)) (fair _ refl (omega arith)))
+        (fair-if h (l.protocol == 0x04) (serves_uart l kind payload h) _
+        (fair-uart h l (read_uart_ask_of_module kind payload))
+        (fair-if h (l.protocol == 0x17) (serves_firmware l kind payload h) (host_refuses _ h)
+        (fair-firmware h l kind payload) (fair _ refl (omega arith))))
 
 -- an answer fits into a message
 pub ap-fits : (k kind : ℕ) (payload : List ℕ) (h : Host) (served : code_served.HostServed)
     (y : code_host.Host) → host_serves k kind payload h ≡ served_of served y
     → length served.payload ≤ most_payload
 ap-fits k kind payload h served y is =
-    let brief = subst (λ (v : HostServed). length v.answer.payload ≤ 2) is
-    (serves-fair k kind payload h).brief in
-    omega (arith, brief)
+    subst (λ (v : HostServed). length v.answer.payload ≤ most_payload) is
+    (serves-fair k kind payload h).fits
 
 -- ---- the machine's application processor
 

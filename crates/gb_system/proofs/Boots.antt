@@ -85,6 +85,7 @@ started-stand x s st = record {
   bus = st.bus;
   ports = st.ports;
   modules = st.modules;
+  loads = st.loads;
   host = st.host;
   names = st.names;
   apart = st.apart;

@@ -9,13 +9,14 @@ use Rattle.gb_machine.proofs.Opened.{machine_opened}
 use Rattle.gb_machine.specs.Actions.{nothing}
 use Rattle.gb_machine.specs.Bus.{Connection, connection_of}
 use Rattle.gb_machine.specs.Ports.{unrouted}
-use Rattle.gb_machine.specs.Responding.{creates, destroys, responds_plainly, responds_with}
-use Rattle.gb_machine.specs.Responding.{svc_decided, svc_stepped, unroutes, with_ports}
+use Rattle.gb_machine.specs.Responding.{creates, destroys, disconnects, responds_plainly}
+use Rattle.gb_machine.specs.Responding.{responds_with, svc_decided, svc_stepped, unroutes}
+use Rattle.gb_machine.specs.Responding.{with_ports}
 use Rattle.gb_machine.specs.Sending.{is_wired}
 use Rattle.gb_machine.specs.Serving.{answer, invalid, nonexistent, plainly, success}
 use Rattle.gb_machine.specs.State.{Port, State}
 use Rattle.gb_machine.specs.SvcTable.{SvcServed, SvcStep}
-use Rattle.gb_machine.specs.Wires.{unwires, wires}
+use Rattle.gb_machine.specs.Wires.{wires}
 use Rattle.gb_machine.specs.Wiring.{is_wired_to, joining, joins}
 use Rattle.gb_switch.specs.Climbing.{Follows}
 use Rattle.gb_switch.specs.Stands as switch
@@ -72,14 +73,14 @@ wires_behind y s k n d st same says does = record {
 }
 
 -- or unwired
-pub unwires_behind : (y : Ladder) (s : State) (k n : ℕ) (d : Decision) → switch.Stands y s.ports → n
-    ≡ k
+pub disconnects_behind : (y : Ladder) (s : State) (k n : ℕ) (d : Decision)
+    → switch.Stands y s.ports → n ≡ k
     → answer_of d ≡ plainly success → d.behind ≡ behind.Unwire k
-    → Decides y s (responds_with (plainly success) (unwires n)) d
-unwires_behind y s k n d st same says does = record {
+    → Decides y s (responds_with (plainly success) (disconnects n)) d
+disconnects_behind y s k n d st same says does = record {
   answer = sym says;
-  behind = subst (DoesBehind y s (unwires n)) (sym does)
-      (record { stands = st; is = ap unwires same });
+  behind = subst (DoesBehind y s (disconnects n)) (sym does)
+      (record { stands = st; is = ap disconnects same });
 }
 
 -- ---- what connections decide
@@ -145,12 +146,12 @@ module _ (around : Around) (x : Bus) (y : Ladder) (s : State) (a i c : ℕ) (d :
 
     destroys_by : (wired : Bool) → is_wired (connection_of k s.bus) ≡ wired
         → Decides y s (if wired then responds_with (plainly success)
-        (unwires joined.connection.number) else responds_plainly nonexistent) d
+        (disconnects joined.connection.number) else responds_plainly nonexistent) d
         → Decides y s (destroys (joining a i c s.bus)) d
     destroys_by wired is decides =
         subst (λ o. Decides y s (destroys o) d) (sym joined.joins)
         (subst (λ b. Decides y s (if b then responds_with (plainly success)
-        (unwires joined.connection.number) else responds_plainly nonexistent) d)
+        (disconnects joined.connection.number) else responds_plainly nonexistent) d)
         (sym is ∙ ap is_wired joined.live) decides)
 
     -- it is wired already
@@ -178,7 +179,7 @@ module _ (around : Around) (x : Bus) (y : Ladder) (s : State) (a i c : ℕ) (d :
         → d.behind ≡ behind.Unwire k → Decides y s (destroys (joining a i c s.bus)) d
     destroys_one wired says does =
         destroys_by true wired
-        (unwires_behind y s k joined.connection.number d st.ports joined.number says does)
+        (disconnects_behind y s k joined.connection.number d st.ports joined.number says does)
 
 -- a connection is wired to an interface that is to lose its route
 pub unroutes_wired : (around : Around) (x : Bus) (y : Ladder) (s : State) (i : ℕ) (d : Decision)

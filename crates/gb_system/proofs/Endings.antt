@@ -12,20 +12,23 @@ use Rattle.gb_base.specs.declared.peers.Link.{Link}
 use Rattle.gb_invariants.proofs.Awaiting.{awaited, late, none-some, opened, same-some}
 use Rattle.gb_invariants.proofs.Lists.{in-behind}
 use Rattle.gb_machine.proofs.Opened.{machine_opened}
+use Rattle.gb_machine.proofs.Steps.{host_follows-loads}
 use Rattle.gb_machine.specs.Actions.{given, nothing, tell, when, ◌▸◌}
 use Rattle.gb_bus.specs.Naming.{about_of, asked_for}
 use Rattle.gb_bus.specs.declared.answers.About.{About}
 use Rattle.gb_machine.specs.Bus.{Bus, Request, connection_of, is_open, request_of}
 use Rattle.gb_machine.specs.Host.{is_draining, link_of}
-use Rattle.gb_machine.specs.HostActs.{follows, idles, idles_behind, notices, turns}
+use Rattle.gb_machine.specs.HostActs.{follows, host_follows, idles, idles_behind, notices, turns}
 use Rattle.gb_machine.specs.HostTurns.{drained, host_disconnects}
 use Rattle.gb_machine.specs.LawsBus.{is_awaited}
 use Rattle.gb_machine.specs.Lists.{holds_of}
+use Rattle.gb_machine.specs.Loading.{load_follows, load_of}
 use Rattle.gb_machine.specs.Requests.{gave_up, is_idle, same_side}
-use Rattle.gb_machine.specs.State.{State}
+use Rattle.gb_machine.specs.State.{Load, State}
 use Rattle.gb_machine.specs.Turns.{turn}
 use Rattle.gb_system.proofs.Doings.{does-as, does-by_state, does-given, does-nothing, does-then}
 use Rattle.gb_system.proofs.Doings.{does-unless, does-when}
+use Rattle.gb_system.proofs.Loadings.{follows-none}
 use Rattle.gb_system.specs.Doing.{Does}
 use Rattle.gb_system.specs.Ending.{IsAwaited, IsOver, MayFollow, MayIdle}
 use Rattle.gb_system.specs.Stands.{PartsStand, around_bus}
@@ -119,12 +122,42 @@ idle-closes k idle is rests d =
 pub follows-then : {x y : Parties} {s : State} {a b c : List Entry} (over : Over) (how : Outcome)
     → (is : IsOver over s) → Does x (notices (host_event.Ended over.number how)) s a b
     → Does y (idles_behind is.request) (notices (host_event.Ended over.number how) s).state b c
-    → Does y (follows over.number how) s a c
+    → Does y (host_follows over.number how) s a c
 unfolding machine_opened
 follows-then over how is d e =
     does-by_state (λ t. notices (host_event.Ended over.number how)
     ▸ given (request_of over.number t.bus) idles_behind)
     (does-then d (does-given idles_behind is.request is.made e))
+
+-- and then a download goes on
+pub loads-then : {x y : Parties} {s : State} {a b c : List Entry} (n : ℕ) (how was : Outcome)
+    → was ≡ how → Does x (host_follows n how) s a b
+    → Does y (load_follows n was) (host_follows n how s).state b c → Does y (follows n how) s a c
+unfolding machine_opened
+loads-then {y = y} {s = s} {b = b} {c = c} n how was same d e =
+    does-then d
+    (subst (λ w. Does y (load_follows n w) (host_follows n how s).state b c) same e)
+
+-- what was kept of the outcome is the outcome
+pub awaited-is : (o : Option Load) (was how : Outcome) → Some was ≡ option_map (λ l. how) o
+    → was ≡ how
+awaited-is None was how e = absurd cc
+awaited-is (Some l) was how e = same-some was how e
+
+-- where none waits for the request, none does
+pub loads-none : {x y : Parties} {s : State} {a b : List Entry} (n : ℕ) (how : Outcome)
+    → PartsStand [] x s → Does y (host_follows n how) s a b
+    → None ≡ option_map (λ l. how) (load_of n x.loads) → Does y (follows n how) s a b
+unfolding machine_opened
+loads-none {x} {y} {s} n how st d none =
+    does-then {g = load_follows n how} d
+    (does-as {f = nothing} (sym (follows-none n how (host_follows n how s).state
+    (ap (load_of n) (host_follows-loads n how s ∙ st.loads) ∙ unwaited (load_of n x.loads) none)))
+    (does-nothing d.stand))
+  where
+    unwaited : (o : Option Load) → None ≡ option_map (λ l. how) o → o ≡ None
+    unwaited None e = refl
+    unwaited (Some l) e = absurd cc
 
 -- a request of a module leaves connections as they are
 pub behind-far : {x : Parties} {s : State} {a : List Entry} {over : Over} {t : State}

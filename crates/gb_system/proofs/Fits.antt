@@ -290,6 +290,7 @@ device_fits (devices.Spi last) kind payload short =
     spi_read_fits last (read_spi_ask kind payload)
 device_fits devices.Uart kind payload short = uart_read_fits (read_uart_ask_of_ap kind payload)
 device_fits devices.Loopback kind payload short = loopback_fits kind payload short
+device_fits (devices.Firmware loader) kind payload short = plain_fits protocol_bad
 
 -- requests are left out or not
 left_out : (state : CportState) (served : Served) → IsFitting served
@@ -364,6 +365,7 @@ device-asks (devices.I2c device) stir t is = absurd cc
 device-asks (devices.Spi last) stir t is = absurd cc
 device-asks devices.Uart (devices.Level which new) t is = absurd cc
 device-asks devices.Loopback stir t is = absurd cc
+device-asks (devices.Firmware loader) stir t is = absurd cc
 
 -- requests are left out or not
 asks-if-on : (state : CportState) (asks : List OwnAsk) → AreAskable asks

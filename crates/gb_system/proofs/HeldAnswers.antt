@@ -74,6 +74,7 @@ held-alike {x} {s} held st same = record {
   bus = st.bus;
   ports = st.ports;
   modules = st.modules;
+  loads = st.loads;
   host = st.host;
   names = st.names;
   apart = st.apart;
@@ -115,6 +116,7 @@ fewer-stand {x} {s} held k i h st t = let f = t.around in record {
       (ap (map held_item) f.whole ∙ map-append held_item f.before (t.one ∷ f.after)) st.bus));
   ports = st.ports;
   modules = st.modules;
+  loads = st.loads;
   host = st.host;
   names = st.names;
   apart = st.apart;

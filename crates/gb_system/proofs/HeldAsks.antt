@@ -106,6 +106,7 @@ hold-stand x holds s k st marks = record {
   bus = st.bus;
   ports = st.ports;
   modules = st.modules;
+  loads = st.loads;
   host = st.host;
   names = st.names;
   apart = st.apart;
@@ -192,6 +193,7 @@ keep-stand {x} {s} held k item h st holds one = record {
       x.bus s.bus) (sym (append-nil (held_items s))) st.bus));
   ports = st.ports;
   modules = st.modules;
+  loads = st.loads;
   host = st.host;
   names = st.names;
   apart = st.apart;

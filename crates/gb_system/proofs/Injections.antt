@@ -17,11 +17,11 @@ use Rattle.gb_bus.specs.declared.bus.Bus.{Bus}
 use Rattle.gb_invariants.proofs.Awaiting.{same-some}
 use Rattle.gb_laws.proofs.points.Places.{place-is}
 use Rattle.gb_machine.proofs.Opened.{machine_opened}
-use Rattle.gb_machine.proofs.Steps.{told, with_bus}
+use Rattle.gb_machine.proofs.Steps.{told}
 use Rattle.gb_machine.specs.Actions.{given}
 use Rattle.gb_machine.specs.Bus.{Place, connection_of}
 use Rattle.gb_machine.specs.Events.{does}
-use Rattle.gb_machine.specs.LineActions.{injects_at}
+use Rattle.gb_machine.specs.LineActions.{injects_at, with_injected}
 use Rattle.gb_machine.specs.Lists.{Condition, first_met}
 use Rattle.gb_machine.specs.Refusals.{longest_message, module_place, refusal, wired_conditions}
 use Rattle.gb_machine.specs.Sending.{is_wired}
@@ -31,7 +31,7 @@ use Rattle.gb_system.proofs.Arrivals.{is-there}
 use Rattle.gb_system.proofs.Doings.{does-by_state, does-given, does-is}
 use Rattle.gb_system.proofs.HeldAsks.{is-at}
 use Rattle.gb_system.proofs.Replies.{none-not}
-use Rattle.gb_system.proofs.Standing.{rebussed}
+use Rattle.gb_system.proofs.Standing.{rebussed, repast}
 use Rattle.gb_system.proofs.Ways.{met-early, met-late}
 use Rattle.gb_system.specs.Doing.{Does, IsDone, IsRefused}
 use Rattle.gb_system.specs.Holding.{WiredAs}
@@ -101,7 +101,7 @@ no-ends x s i c k st wired none =
     (ap (option_map ends_of) w.found)
 
 injects-is : (s : State) (i c : ℕ) (bytes : List ℕ) (p : Place)
-    → injects_at i c bytes p s ≡ told (with_bus (injected p.connection.number bytes s.bus) s)
+    → injects_at i c bytes p s ≡ told (with_injected p.connection.number bytes s)
     (entry.Raw (end.Module i c) (end.Ap p.connection.ap) (length bytes) bytes ∷ [])
 unfolding machine_opened
 injects-is s i c bytes p = refl
@@ -132,12 +132,13 @@ inject-done x y s i c k bytes ends before es st wired fits injects has is =
           late-refusal s i c bytes false wired.0 (not-less longest_message (length bytes) fits);
       done =
           does-injects i c bytes p w.named
-          (does-is (with_bus after s)
+          (does-is (with_injected p.connection.number bytes s)
           (entry.Raw (end.Module i c) (end.Ap p.connection.ap) (length bytes) bytes ∷ [])
           (injects-is s i c bytes p)
           (is ∙ ap (λ (e : ℕ × End). before
           ++ entry.Raw (end.Module i c) (end.Ap e.0) (length bytes) bytes ∷ []) same)
-          (rebussed [] y after st.parts stands refl));
+          (repast (with_injected p.connection.number bytes s).past
+          (rebussed [] y after st.parts stands refl)));
     }
   where
     not-less : (a b : ℕ) → b ≤ a → nat_lt a b ≡ false

@@ -21,8 +21,13 @@ pub mod HeldAsks
 pub mod HoldMarks
 pub mod Holdings
 pub mod Injections
+pub mod ImageFits
 pub mod Inserts
 pub mod Landing
+pub mod LoadEnds
+pub mod Loadings
+pub mod LoadLines
+pub mod LoadStarts
 pub mod LoopbackFits
 pub mod Midways
 pub mod ModuleServes
@@ -31,6 +36,7 @@ pub mod NameOrders
 pub mod NamedRequests
 pub mod Notices
 pub mod Plugged
+pub mod PluggedLoads
 pub mod Pluggings
 pub mod Pulls
 pub mod RawArrivals

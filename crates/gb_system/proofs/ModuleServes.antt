@@ -76,6 +76,7 @@ stands-with ms mods same short h = record {
   bus = h.bus;
   ports = h.ports;
   modules = same;
+  loads = h.loads;
   host = h.host;
   names = h.names;
   apart = h.apart;

@@ -71,6 +71,7 @@ renamed x s y others st stands same apart = record {
   bus = stands;
   ports = st.ports;
   modules = st.modules;
+  loads = st.loads;
   host = st.host;
   names = same;
   apart = apart;

@@ -2,6 +2,7 @@
 use Rattle.std.proofs.Common.{◌≡◌, ℕ, Bool, true, false, cond, Option, Some, None, List, [], ◌∷◌}
 use Rattle.std.proofs.Common.{option_map, suc, get_or, set, refl, sym, ap, ◌∙◌, subst, ◌<◌, ◌≤◌}
 use Rattle.std.proofs.Common.{◌+◌, ◌-◌, arith, is_some, option_copied, Bor, ◌||◌}
+use Rattle.std.proofs.lemmas.List.{set-get_or}
 use Rattle.std.specs.Prelude.{nat_lt, Ok}
 use Rattle.std.specs.List.{insert, position_from, list_any}
 use Rattle.gb_base.specs.declared.served.Served.{Served}
@@ -9,6 +10,7 @@ use Rattle.gb_formats.specs.Module.{Module}
 use Rattle.gb_formats.specs.ModuleSteps.{module_serve}
 use Rattle.gb_machine.proofs.Positions.{none-stands, standing}
 use Rattle.gb_machine.specs.Modules.{is_plugged_at, module_at, part_at, plugged, plugged_before}
+use Rattle.gb_machine.specs.Modules.{with_module}
 use Rattle.gb_machine.specs.Lists.{in_order, span}
 use Rattle.gb_machine.specs.State.{Plugged}
 use Rattle.gb_system.specs.Plugging.{ServesThere, place_behind}
@@ -85,6 +87,31 @@ one-serves i cport kind payload ps zs o n b x y served first is view same at ans
           ∙ ap (λ (p : Plugged). record p { body = step.after }) (sym here))
           ∙ sym (stands.changed (λ p. record p { body = step.after }) x),
     )
+
+-- The module at a place is changed, which is that of an interface.
+pub record IsChanged (i : ℕ) (ps zs : List Plugged) (body m : Module) : Type 0 where
+  pub found : module_at i ps ≡ Some body
+  pub changed : zs ≡ with_module i m ps
+  pub kept : m ≡ body → zs ≡ ps
+
+pub is-changed : (i : ℕ) (ps zs : List Plugged) (o : Option ℕ) (n : ℕ) (b x : Plugged) (m : Module)
+    → o ≡ position_from (is_plugged_at i) 0 ps → o ≡ Some n → zs ≡ ps
+    → x ≡ b → b ≡ get_or zs n b → IsChanged i ps (set zs n (record x { body = m })) x.body m
+is-changed i ps zs o n b x m first is view same at =
+    let stands = standing (is_plugged_at i) ps n (sym first ∙ is) in
+    let here : get_or ps n x ≡ x =
+    sym (same ∙ at ∙ ap (get_or zs n) (sym same) ∙ ap (λ l. get_or l n x) view) in
+    let y : Plugged = record x { body = m } in record {
+      found =
+          ap (option_map (λ (p : Plugged). p.body)) (stands.found x ∙ ap Some here);
+      changed =
+          ap (λ l. set l n y) view
+          ∙ ap (λ (p : Plugged). set ps n (record p { body = m })) (sym here)
+          ∙ sym (stands.changed (λ p. record p { body = m }) x);
+      kept = λ e.
+          ap (λ l. set l n y) view ∙ ap (λ k. set ps n (record x { body = k })) e
+          ∙ ap (set ps n) (sym here) ∙ set-get_or ps n x;
+    }
 
 -- ---- the interfaces of a module
 

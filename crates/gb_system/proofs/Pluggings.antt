@@ -40,6 +40,7 @@ plugged-stand x s p modules l st is short ports = record {
   bus = st.bus;
   ports = ports;
   modules = ap (plugged p) st.modules ∙ sym is;
+  loads = st.loads;
   host = st.host;
   names = st.names;
   apart = st.apart;

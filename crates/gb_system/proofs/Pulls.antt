@@ -1,7 +1,7 @@
 -- Modules are pulled as the machine does.
 use Rattle.std.proofs.Common.{◌≡◌, ◌≤◌, ◌+◌, ℕ, Bool, true, false, not, Option, None, List, [], ◌∷◌}
 use Rattle.std.proofs.Common.{◌++◌, length, drop, drop_of_length-le, refl, sym, ap, ◌∙◌, subst}
-use Rattle.std.proofs.Common.{arith, cond, is_some, map, ◌<◌, ◌-◌, Some, option_map}
+use Rattle.std.proofs.Common.{arith, cond, is_some, map, ◌<◌, ◌-◌, ◌==◌, Some, option_map}
 use Rattle.gb_base.specs.declared.end.Side.TheVariants as side
 use Rattle.gb_base.specs.declared.entry.Entry.{Entry}
 use Rattle.gb_base.specs.declared.event.Event.TheVariants as event
@@ -13,14 +13,14 @@ use Rattle.gb_invariants.proofs.Lists.{each-filter}
 use Rattle.gb_machine.proofs.Opened.{machine_opened}
 use Rattle.gb_machine.specs.Actions.{Action, change, each, nothing, when, ◌▸◌, given}
 use Rattle.gb_machine.specs.Bus.{next_number, request_of}
-use Rattle.gb_machine.specs.Lists.{first_met, span}
+use Rattle.gb_machine.specs.Lists.{first_met, span, without}
 use Rattle.gb_machine.specs.Modules.{is_plugged, is_plugged_at, unplugged, interfaces_of, part_at}
 use Rattle.gb_machine.specs.OwnAsking.{far_asks, svc_asks}
 use Rattle.gb_machine.specs.Plugging.{recalled, tells_removed, wired_numbers, with_pulled}
 use Rattle.gb_machine.specs.Plugging.{with_told, pulls_module, pulls_one}
 use Rattle.gb_machine.specs.Ports.{unpowered}
 use Rattle.gb_machine.specs.Refusals.{has_no_label, refusal}
-use Rattle.gb_machine.specs.State.{Plugged, State}
+use Rattle.gb_machine.specs.State.{Load, Plugged, State}
 use Rattle.gb_machine.specs.Wires.{unwires, with_unwired}
 use Rattle.gb_switch.specs.Stands as switch
 use Rattle.gb_switch.specs.declared.ladder.Ladder.{Ladder}
@@ -130,13 +130,15 @@ unwiring-booted [] s = refl
 unwiring-booted (n ∷ ns) s = unwiring-booted ns (with_unwired n s)
 
 -- the parties stand for the state where nothing is plugged there
-pulled-stand : (x : Parties) (t : State) (i : ℕ) (modules : List Plugged) (l : Ladder)
-    → PartsStand [] x t → modules ≡ unplugged i x.modules → switch.Stands l (unpowered i t.ports)
-    → PartsStand [] (record x { modules = modules; ladder = l }) (with_pulled i t)
-pulled-stand x t i modules l st is ports = record {
+pulled-stand : (x : Parties) (t : State) (i : ℕ) (modules : List Plugged) (loads : List Load)
+    (l : Ladder) → PartsStand [] x t → modules ≡ unplugged i x.modules
+    → loads ≡ without (λ w. w.intf == i) x.loads → switch.Stands l (unpowered i t.ports)
+    → PartsStand [] (record x { modules = modules; loads = loads; ladder = l }) (with_pulled i t)
+pulled-stand x t i modules loads l st is left ports = record {
   bus = st.bus;
   ports = ports;
   modules = ap (unplugged i) st.modules ∙ sym is;
+  loads = ap (without (λ (w : Load). w.intf == i)) st.loads ∙ sym left;
   host = st.host;
   names = st.names;
   apart = st.apart;
@@ -149,16 +151,18 @@ pulled-stand x t i modules l st is ports = record {
 }
 
 -- What is unwired are all connections of the interface.
-pub pulled-one : (x : Parties) (s : State) (i : ℕ) (modules : List Plugged) (l : Ladder)
-    (before told : List Entry) → Does x (each (wired_numbers i s.bus) unwires) s before told
-    → modules ≡ unplugged i x.modules
+pub pulled-one : (x : Parties) (s : State) (i : ℕ) (modules : List Plugged) (loads : List Load)
+    (l : Ladder) (before told : List Entry)
+    → Does x (each (wired_numbers i s.bus) unwires) s before told
+    → modules ≡ unplugged i x.modules → loads ≡ without (λ w. w.intf == i) x.loads
     → switch.Stands l (unpowered i (after_unwiring (wired_numbers i s.bus) s).ports)
-    → Does (record x { modules = modules; ladder = l }) (pulls_one i) s before told
+    → Does (record x { modules = modules; loads = loads; ladder = l }) (pulls_one i) s before told
 unfolding machine_opened
-pulled-one x s i modules l before told d is ports =
+pulled-one x s i modules loads l before told d is left ports =
     does-by_state (λ t. each (wired_numbers i t.bus) unwires ▸ change (with_pulled i))
     (does-then d (does-change (with_pulled i)
-    (pulled-stand x (after_unwiring (wired_numbers i s.bus) s) i modules l d.stand is ports)))
+    (pulled-stand x (after_unwiring (wired_numbers i s.bus) s) i modules loads l d.stand is left
+    ports)))
 
 -- whether the supervisory controller has started is no matter of it
 pulling-booted : (is : List ℕ) (s : State) → (each is pulls_one s).state.booted ≡ s.booted

@@ -3,12 +3,12 @@
 use Rattle.std.proofs.Common.{ℕ, Some, List, [], ◌∷◌, ◌≡◌, refl}
 use Rattle.gb_machine.specs.Bus.{Bus}
 use Rattle.gb_machine.specs.Ports.{unrouted}
-use Rattle.gb_machine.specs.Responding.{Response, responds_plainly, responds_with, svc_stepped}
-use Rattle.gb_machine.specs.Responding.{with_ports}
+use Rattle.gb_machine.specs.Responding.{Response, disconnects, responds_plainly, responds_with}
+use Rattle.gb_machine.specs.Responding.{svc_stepped, with_ports}
 use Rattle.gb_machine.specs.Serving.{plainly}
 use Rattle.gb_machine.specs.State.{Port, State, first_state}
 use Rattle.gb_machine.specs.SvcTable.{svc_step}
-use Rattle.gb_machine.specs.Wires.{unwires, wires}
+use Rattle.gb_machine.specs.Wires.{wires}
 use Rattle.gb_machine.specs.Wiring.{attached, wired}
 
 -- interface 2 is routed
@@ -64,7 +64,7 @@ create_again = refl
 pub unroute_of_wired : unroute wired_state ≡ responds_plainly 0x06
 unroute_of_wired = refl
 
-pub destroy_unwires : destroy wired_state ≡ responds_with (plainly 0x00) (unwires 2)
+pub destroy_unwires : destroy wired_state ≡ responds_with (plainly 0x00) (disconnects 2)
 destroy_unwires = refl
 
 pub unroute_of_unwired : unroute unwired_state

@@ -15,7 +15,7 @@ use Rattle.gb_machine.specs.Bus.{Request}
 use Rattle.gb_machine.specs.Holding.{held_on}
 use Rattle.gb_machine.specs.Host as machine_host
 use Rattle.gb_machine.specs.Lists.{nth}
-use Rattle.gb_machine.specs.State.{Held, Past, Port, State}
+use Rattle.gb_machine.specs.State.{Held, Load, Past, Port, State}
 use Rattle.gb_switch.specs.Stands as switch
 use Rattle.gb_switch.specs.declared.ladder.Ladder.{Ladder}
 use Rattle.gb_system.specs.Held.{held_at}
@@ -53,6 +53,7 @@ standing loose y b v ports z h past st bus_stands keeps ladder_stands host_stand
   bus = bus_stands;
   ports = ladder_stands;
   modules = st.modules;
+  loads = st.loads;
   host = host_stands;
   names = st.names;
   apart = st.apart;
@@ -149,3 +150,23 @@ pub relevelled : {x : Parties} {s : State} {loose : List Loose} (y : Ladder) (po
 relevelled {x} {s} {loose} y ports st stands =
     standing loose x.bus s.bus y ports x.host s.host s.past st st.bus
     (same-keeps s.bus st refl) stands st.host
+
+-- The parties stand for a state with other last requests of firmware devices.
+pub reloaded : {x : Parties} {s : State} {loose : List Loose} (loads ls : List Load)
+    → PartsStand loose x s → ls ≡ loads
+    → PartsStand loose (record x { loads = loads }) (record s { loads = ls })
+reloaded loads ls st same = record {
+  bus = st.bus;
+  ports = st.ports;
+  modules = st.modules;
+  loads = same;
+  host = st.host;
+  names = st.names;
+  apart = st.apart;
+  booted = st.booted;
+  sound = st.sound;
+  short = st.short;
+  time = st.time;
+  holds = st.holds;
+  held = st.held;
+}

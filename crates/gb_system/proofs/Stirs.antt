@@ -1,7 +1,6 @@
 -- What comes to modules from outside.
 use Rattle.std.proofs.Common.{◌≡◌, ◌≤◌, ℕ, Option, Some, None, is_none, option_map, Result, Ok, Err}
 use Rattle.std.proofs.Common.{List, [], ◌∷◌, length, get_or, set, refl, sym, ap, ◌∙◌, subst}
-use Rattle.std.proofs.lemmas.List.{set-get_or}
 use Rattle.std.specs.Prelude.{option_and_then}
 use Rattle.std.specs.List.{position_from}
 use Rattle.gb_base.specs.declared.entry.Entry.{Entry}
@@ -16,7 +15,6 @@ use Rattle.gb_formats.specs.Results.{Stirred, most_payload}
 use Rattle.gb_invariants.proofs.Awaiting.{same-some}
 use Rattle.gb_laws.proofs.together.Manifests.{stir-manifest}
 use Rattle.gb_machine.proofs.Opened.{machine_opened}
-use Rattle.gb_machine.proofs.Positions.{standing}
 use Rattle.gb_machine.specs.Actions.{Action, by_state, given}
 use Rattle.gb_machine.specs.Bus.{Place}
 use Rattle.gb_machine.specs.Events.{does}
@@ -36,7 +34,7 @@ use Rattle.gb_system.proofs.Doings.{does-by_state, does-change}
 use Rattle.gb_system.proofs.Doings.{does-given, does-given_none, does-then}
 use Rattle.gb_system.proofs.Fits.{stir-asks}
 use Rattle.gb_system.proofs.ModuleServes.{short-at, short-with, stands-with, with_modules}
-use Rattle.gb_system.proofs.Plugged.{none-there}
+use Rattle.gb_system.proofs.Plugged.{is-changed, none-there}
 use Rattle.gb_system.specs.Acting.{AreAskable}
 use Rattle.gb_system.specs.Doing.{Does, IsDone, IsRefused}
 use Rattle.gb_system.specs.Plugging.{StirsAt, StirsThere, event_of_stir}
@@ -78,21 +76,10 @@ pub one-stirs : (i c : ℕ) (what : Stir) (ps zs : List Plugged) (o : Option ℕ
     → x ≡ b → b ≡ get_or zs n b → StirsAs (module_stir x.body c what) x.body m r
     → StirsThere i c what (module_at i ps) ps (set zs n (record x { body = m })) (of_all r)
 one-stirs i c what ps zs o n b x m r first is view same at stirred =
-    let stands = standing (is_plugged_at i) ps n (sym first ∙ is) in
-    let here : get_or ps n x ≡ x =
-    sym (same ∙ at ∙ ap (get_or zs n) (sym same) ∙ ap (λ l. get_or l n x) view) in
-    let found : module_at i ps ≡ Some x.body =
-    ap (option_map (λ (p : Plugged). p.body)) (stands.found x ∙ ap Some here) in
-    let y : Plugged = record x { body = m } in
-    let changed : set zs n y ≡ with_module i m ps =
-    ap (λ l. set l n y) view
-    ∙ ap (λ (p : Plugged). set ps n (record p { body = m })) (sym here)
-    ∙ sym (stands.changed (λ p. record p { body = m }) x) in
-    let kept : m ≡ x.body → set zs n y ≡ ps =
-    λ e. ap (λ l. set l n y) view ∙ ap (λ k. set ps n (record x { body = k })) e
-    ∙ ap (set ps n) (sym here) ∙ set-get_or ps n x in
-    subst (λ o. StirsThere i c what o ps (set zs n y) (of_all r)) (sym found)
-    (stirs-at i (module_stir x.body c what) x.body m ps (set zs n y) r stirred changed kept)
+    let one = is-changed i ps zs o n b x m first is view same at in
+    let after = set zs n (record x { body = m }) in
+    subst (λ o. StirsThere i c what o ps after (of_all r)) (sym one.found)
+    (stirs-at i (module_stir x.body c what) x.body m ps after r stirred one.changed one.kept)
 
 -- ---- the event
 

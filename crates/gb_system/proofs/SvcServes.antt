@@ -13,12 +13,12 @@ use Rattle.gb_machine.specs.Actions.{Action, Told, nothing, ◌▸◌}
 use Rattle.gb_machine.specs.Bus.{Connection, Item}
 use Rattle.gb_machine.specs.Delivery.{replied}
 use Rattle.gb_machine.specs.Incoming.{Incoming, reply_entry, reply_item}
-use Rattle.gb_machine.specs.Responding.{Response, far_response, replies, responds, serves}
-use Rattle.gb_machine.specs.Responding.{svc_stepped}
+use Rattle.gb_machine.specs.Responding.{Response, disconnects, far_response, replies, responds}
+use Rattle.gb_machine.specs.Responding.{serves, svc_stepped}
 use Rattle.gb_machine.specs.Serving.{Answer}
 use Rattle.gb_machine.specs.State.{Port, State}
 use Rattle.gb_machine.specs.SvcTable.{svc_step}
-use Rattle.gb_machine.specs.Wires.{unwires, wires, with_wired}
+use Rattle.gb_machine.specs.Wires.{wires, with_wired}
 use Rattle.gb_machine.specs.Wiring.{wired}
 use Rattle.gb_switch.specs.declared.ladder.Ladder.{Ladder}
 use Rattle.gb_system.proofs.Doings.{does-as, does-is, does-then}
@@ -129,4 +129,4 @@ svc-served {x} {y} {z} {s} {a} {b} {e} l k asked payload c item dec d st decides
         (does-then answered_so
         (then (replies side.Far c q (answer_of dec) t).state answered_so.stand))
     by (behind.Wire j) w then = by_this (wires j) w then
-    by (behind.Unwire j) w then = by_this (unwires j) w then
+    by (behind.Unwire j) w then = by_this (disconnects j) w then

@@ -84,6 +84,7 @@ later-stand {x} {s} millis time st is = record {
   bus = st.bus;
   ports = st.ports;
   modules = st.modules;
+  loads = st.loads;
   host = st.host;
   names = st.names;
   apart = st.apart;

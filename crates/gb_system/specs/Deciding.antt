@@ -3,10 +3,10 @@ use Rattle.std.specs.Prelude.{◌≡◌, List, []}
 use Rattle.gb_bus.specs.Stands as bus
 use Rattle.gb_bus.specs.declared.bus.Bus.{Bus}
 use Rattle.gb_machine.specs.Actions.{Action, nothing}
-use Rattle.gb_machine.specs.Responding.{Response}
+use Rattle.gb_machine.specs.Responding.{Response, disconnects}
 use Rattle.gb_machine.specs.Serving.{Answer, answer}
 use Rattle.gb_machine.specs.State.{Port, State}
-use Rattle.gb_machine.specs.Wires.{unwires, wires}
+use Rattle.gb_machine.specs.Wires.{wires}
 use Rattle.gb_switch.specs.Stands as switch
 use Rattle.gb_switch.specs.declared.ladder.Ladder.{Ladder}
 use Rattle.gb_system.specs.declared.deciding.Behind.{Behind}
@@ -38,13 +38,13 @@ pub record DoesThis (new : Ladder) (s : State) (does this : Action) : Type 0 whe
 abbrev pub action_of : Behind → Action
 action_of behind.Nothing = nothing
 action_of (behind.Wire k) = wires k
-action_of (behind.Unwire k) = unwires k
+action_of (behind.Unwire k) = disconnects k
 
 -- What is done after the reply at a state, by cases.
 abbrev pub DoesBehind : Ladder → State → Action → Behind → Type 0
 DoesBehind new s does behind.Nothing = ChangesPorts new s does
 DoesBehind new s does (behind.Wire k) = DoesThis new s does (wires k)
-DoesBehind new s does (behind.Unwire k) = DoesThis new s does (unwires k)
+DoesBehind new s does (behind.Unwire k) = DoesThis new s does (disconnects k)
 
 -- A response has the answer of a decision, and this comes after it.
 pub record Decides (new : Ladder) (s : State) (r : Response) (d : Decision) : Type 0 where

@@ -7,6 +7,7 @@ pub mod Drafts
 pub mod Ending
 pub mod Held
 pub mod Holding
+pub mod Loading
 pub mod NameOrder
 pub mod Outcomes
 pub mod Plugging

@@ -88,6 +88,7 @@ pub record PartsStand (loose : List Loose) (x : Parties) (s : State) : Type 0 wh
   pub bus : bus.Stands (around_bus loose s) x.bus s.bus
   pub ports : switch.Stands x.ladder s.ports
   pub modules : s.modules ≡ x.modules
+  pub loads : s.loads ≡ x.loads
   pub host : host.Stands x.host s.host
   pub names : names_in_order s ≡ x.names
   pub apart : AreApart s.names

@@ -1,8 +1,10 @@
 //! What the application processor does of its own.
 
 ghost use Rattle.std.specs.Prelude.{◌≡◌, [], ◌++◌, IfOk, OnOk, map};
+ghost use Rattle.gb_base.specs.declared.end.Side.TheVariants as side;
 ghost use Rattle.gb_machine.specs.HostActs.{fails, host_asks, notices};
 ghost use Rattle.gb_machine.specs.Failures.{unsent};
+ghost use Rattle.gb_machine.specs.Requests.{open_on};
 ghost use Rattle.gb_machine.specs.State.{State};
 ghost use Rattle.gb_machine.specs.Wires.{disconnected_told, shuts, unwires};
 ghost use Rattle.gb_system.specs.Acting.{ActsAs, IsAskable, MakesAs, MayTurn};
@@ -150,7 +152,10 @@ impl Parties {
     }
 
     /// A connection is unwired: what is held there is lost, and its hold mark is taken back.
-    pub fn unwire(&mut self, connection: u64, told: &mut Entries) -> Result<(), OutOfMemory>
+    /// Answers the requests of the far side that ended so, in order of number.
+    pub fn unwire(&mut self, connection: u64, told: &mut Entries) -> Result<Numbers, OutOfMemory>
+        ensures ended { IfOk result (λ ns. (s : State) → PartsStand [] self.old s
+            → ns ≡ open_on connection side.Far s.bus) }
         ensures step { OnOk result ((s : State) → PartsStand [] self.old s
             → Does self.new (unwires connection) s told.old told.new) }
     {
@@ -159,7 +164,7 @@ impl Parties {
         self.holds.remove(connection);
         self.held.forget(connection);
         tell_disconnected(told, ended.items())?;
-        Ok(())
+        Ok(ended)
     }
 }
 

@@ -40,7 +40,7 @@ pub enum Behind {
         /// Its number.
         connection: u64,
     },
-    /// A connection is unwired.
+    /// A connection is unwired, and the downloads fail whose requests ended so.
     Unwire {
         /// Its number.
         connection: u64,

@@ -1,13 +1,14 @@
 //! Requests that end, and connections that drain.
 
-ghost use Rattle.std.specs.Prelude.{◌≡◌, [], OnOk, Option, option_map};
+ghost use Rattle.std.specs.Prelude.{◌≡◌, [], IfOk, OnOk, Option, option_map};
 ghost use Rattle.gb_base.specs.declared.bridge.Reading.TheVariants as reading;
 ghost use Rattle.gb_base.specs.declared.entry.Entry.TheVariants as entry;
 ghost use Rattle.gb_base.specs.declared.peers.Link.{Link};
 ghost use Rattle.gb_machine.specs.Actions.{tell, ◌▸◌};
 ghost use Rattle.gb_machine.specs.Host.{is_draining};
-ghost use Rattle.gb_machine.specs.HostActs.{follows, idles};
+ghost use Rattle.gb_machine.specs.HostActs.{follows, host_follows, idles};
 ghost use Rattle.gb_machine.specs.Lists.{holds_of};
+ghost use Rattle.gb_machine.specs.Loading.{load_of};
 ghost use Rattle.gb_machine.specs.State.{State};
 ghost use Rattle.gb_system.specs.Doing.{Does};
 ghost use Rattle.gb_system.specs.Ending.{IsAwaited, IsOver, MayFollow, MayIdle};
@@ -28,8 +29,8 @@ pub struct Over {
 }
 
 impl Parties {
-    /// A request ended: this is told, what waited for it goes on or fails, and its connection
-    /// begins to close where it drains and nothing is open on it any more.
+    /// A request ended: this is told, what waited for it goes on or fails, its connection begins to
+    /// close where it drains and nothing is open on it any more, and a download goes on.
     pub fn end(
         &mut self,
         over: Over,
@@ -49,6 +50,39 @@ impl Parties {
             outcome: outcome.copy()?,
             reading,
         })?;
+        let awaited = self.awaited(number, &outcome)?;
+        self.host_on(over, outcome, told)?;
+        let Some(outcome) = awaited else {
+            return Ok(());
+        };
+        self.load_on(number, &outcome, told)?;
+        Ok(())
+    }
+
+    /// A copy of the outcome of a request for which a download may wait, None where none does.
+    fn awaited(&self, number: u64, how: &Outcome) -> Result<Option<Outcome>, OutOfMemory>
+        ensures { IfOk result (λ o. o ≡ option_map (λ l. how.now) (load_of number self.now.loads)) }
+    {
+        if self.loads.of(number).is_none() {
+            return Ok(None);
+        }
+        let outcome = how.copy()?;
+        Ok(Some(outcome))
+    }
+
+    /// A request ended: what of the application processor waited for it goes on or fails, and its
+    /// connection begins to close where it drains and nothing is open on it any more.
+    fn host_on(
+        &mut self,
+        over: Over,
+        outcome: Outcome,
+        told: &mut Entries,
+    ) -> Result<(), OutOfMemory>
+        ensures step { OnOk result ((s : State) → PartsStand [] self.old s → IsOver over s
+            → MayFollow over.number outcome s
+            → Does self.new (host_follows over.number outcome) s told.old told.new) }
+    {
+        let number = over.number;
         self.notice(HostEvent::Ended { number, outcome }, told)?;
         match over.side {
             Side::Far => Ok(()),

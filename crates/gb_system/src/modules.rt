@@ -1,17 +1,20 @@
 //! The modules that are plugged.
 
-ghost use Rattle.std.specs.Prelude.{◌≡◌, ◌<◌, ◌≤◌, [], OnOk, OnErr, IfSome};
+ghost use Rattle.std.specs.Prelude.{◌≡◌, ◌<◌, ◌≤◌, [], None, OnOk, OnErr, IfOk, IfSome};
 ghost use Rattle.std.specs.Prelude.{length, option_and_then, option_copied, option_map, slice_get};
 ghost use Rattle.std.specs.List.{list_any, position_from};
 ghost use Rattle.gb_machine.specs.Lists.{span};
 ghost use Rattle.gb_machine.specs.Modules.{is_plugged, is_plugged_at, module_at, module_takes};
 ghost use Rattle.gb_machine.specs.Modules.{part_at, plugged, unplugged};
+ghost use Rattle.gb_module.specs.Loading.{refusal_in};
 ghost use Rattle.gb_module.specs.Stirring.{IsStir};
 ghost use Rattle.gb_module.specs.Views.{stir_of};
+ghost use Rattle.gb_system.specs.Loading.{BeginsAt, LoadsThere, module_refusal};
 ghost use Rattle.gb_system.specs.Plugging.{IsWithin, ServesThere, StirsThere, place_behind};
 ghost use Rattle.gb_system.specs.Plugging.{span_of, told_span};
 
-use gb_base::{OutOfMemory, OwnAsks, Served};
+use crate::module_loading::ended;
+use gb_base::{Next, OutOfMemory, Outcome, OwnAsk, OwnAsks, Refusal, Served, Tag};
 use gb_module::{CportState, Module, Stir, StirFault};
 use std::alloc::Global;
 use std::marker::Model;
@@ -185,6 +188,52 @@ impl Modules {
         let plugged = &mut self.plugged[i];
         let own = plugged.body.stir(cport, what)?;
         Ok(Some(own))
+    }
+
+    /// Why no download can begin at a CPort of the module at an interface: NoInterface exactly
+    /// where none is plugged there, and else what the module answers.
+    pub fn may_load(&self, intf: u8, cport: u16) -> Result<(), Refusal>
+        ensures { module_refusal (module_at intf self.now) cport ≡ refusal_in result }
+    {
+        match self.at(intf) {
+            Some(module) => module.may_load(cport),
+            None => Err(Refusal::NoInterface),
+        }
+    }
+
+    /// The firmware device at a CPort of the module at an interface begins to download the image of
+    /// a tag: answers its first request.
+    pub fn load(&mut self, intf: u8, cport: u16, tag: &Tag) -> Result<OwnAsk, OutOfMemory>
+        requires { module_refusal (module_at intf self.old) cport ≡ None }
+        ensures { IfOk result (BeginsAt intf cport tag.now (module_at intf self.old) self.old
+            self.new) }
+    {
+        let Some(i) = self.place(intf) else {
+            unreachable!();
+        };
+        let plugged = &mut self.plugged[i];
+        let own = plugged.body.load(cport, tag)?;
+        Ok(own)
+    }
+
+    /// What follows at a CPort of the module at an interface whose request ended, None exactly
+    /// where none is plugged there or no download runs. Where no request can be made, the download
+    /// fails in place of one.
+    pub fn ended(
+        &mut self,
+        intf: u8,
+        cport: u16,
+        how: &Outcome,
+        can: bool,
+    ) -> Result<Option<Next>, OutOfMemory>
+        ensures { IfOk result (LoadsThere can intf cport how.now self.old self.new) }
+    {
+        let Some(i) = self.place(intf) else {
+            return Ok(None);
+        };
+        let plugged = &mut self.plugged[i];
+        let next = ended(&mut plugged.body, cport, how, can)?;
+        Ok(next)
     }
 
     /// At how many interfaces something is plugged.

@@ -6,6 +6,7 @@ ghost use Rattle.gb_formats.specs.ValidEvents.{IsValid};
 ghost use Rattle.gb_machine.specs.State.{State, first_state};
 
 use crate::held::HeldRequests;
+use crate::loads::Loads;
 use crate::marks::Marks;
 use crate::modules::Modules;
 use crate::names::Names;
@@ -30,6 +31,8 @@ pub struct Parties {
     pub ladder: Ladder,
     /// The modules that are plugged.
     pub modules: Modules,
+    /// The last requests of firmware devices.
+    pub loads: Loads,
     /// The application processor.
     pub host: Host,
     /// The names that requests have.
@@ -57,6 +60,7 @@ impl Parties {
             bus: Bus::new(alloc)?,
             ladder: Ladder::new(),
             modules: Modules::new(alloc),
+            loads: Loads::new(alloc),
             host: Host::new(alloc)?,
             names: Names::new(alloc),
             booted: false,
@@ -147,6 +151,8 @@ impl Parties {
             Event::Copy { from, to } => self.copy_name(from, to),
             Event::Forget { name } => self.forget_name(name),
             Event::Inject { intf, cport, bytes } => self.inject(*intf, *cport, bytes.items(), told),
+            Event::Image { tag, bytes } => self.image(tag, bytes.items()),
+            Event::Load { intf, cport, tag } => self.load(*intf, *cport, tag, told),
             Event::Show => self.show(told),
         }
     }

@@ -162,6 +162,7 @@ impl Parties {
             self.unwire(*connection, told)?;
         }
         self.modules.unplug(intf);
+        self.loads.forget(intf);
         self.ladder.pull(intf);
         Ok(())
     }

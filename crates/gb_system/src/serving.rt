@@ -81,7 +81,7 @@ impl Parties {
         match behind {
             Behind::Nothing => {}
             Behind::Wire { connection } => self.bus.wire(connection)?,
-            Behind::Unwire { connection } => self.unwire(connection, told)?,
+            Behind::Unwire { connection } => self.sever(connection, told)?,
         }
         Ok(())
     }

@@ -8,13 +8,14 @@ returns c = record {
   bus = c.in_ok-new.ensures;
   ports = c.new-2.ensures;
   modules = sym c.new-3.ensures;
+  loads = sym c.new-4.ensures;
   host = c.in_ok-new-2.ensures;
-  names = sym c.new-5.ensures;
+  names = sym c.new-6.ensures;
   apart = search rules;
   booted = refl;
   sound = search rules;
   short = search rules;
   time = refl;
-  holds = λ k. ap (is_marked k) (sym c.new-6.ensures);
+  holds = λ k. ap (is_marked k) (sym c.new-7.ensures);
   held = search rules;
 }

@@ -34,7 +34,7 @@ returns c = record {
       let unwired = subst (λ ns. Does x (each ns unwires) s c.args.told.now
       c.loop-connection.told) all (midway-all unwires numbers c.loop-connection.connection-index
       c.loop-connection-test.false (c.loop-connection.invariant s st)) in
-      pulled-one x s c.args.intf c.unplug.new.self c.pull.new.self c.args.told.now
-      c.loop-connection.told unwired c.unplug.ensures
+      pulled-one x s c.args.intf c.unplug.new.self c.forget.new.self c.pull.new.self
+      c.args.told.now c.loop-connection.told unwired c.unplug.ensures c.forget.ensures
       (c.pull.ensures.step _ unwired.stand.ports);
 }
