@@ -30,8 +30,8 @@ use Rattle.gb_machine.specs.Names.{bound, is_bound, named, same_name}
 use Rattle.gb_machine.specs.Refusals.{conditions, has_no_label, refusal}
 use Rattle.gb_machine.specs.State.{State}
 use Rattle.gb_share.proofs.NamesKept.{keeps_asks, keeps_boots, keeps_cancels, keeps_drains}
-use Rattle.gb_share.proofs.NamesKept.{keeps_notices, keeps_plugs, keeps_pulls, keeps_stirs}
-use Rattle.gb_share.proofs.NamesKept.{keeps_ticks}
+use Rattle.gb_share.proofs.NamesKept.{keeps_loads, keeps_notices, keeps_on_host, keeps_plugs}
+use Rattle.gb_share.proofs.NamesKept.{keeps_pulls, keeps_stirs, keeps_ticks}
 use Rattle.gb_share.proofs.NamesServed.{keeps_answers, keeps_delivers, keeps_holds, keeps_injects}
 use Rattle.gb_share.proofs.NamesServed.{keeps_settles, keeps_shows}
 use Rattle.gb_system.proofs.BoundNames.{apart-bound, apart-freed}
@@ -141,6 +141,8 @@ names_done s (event.Copy x y) valid allowed = names_copied x y s
 names_done s (event.Forget name) valid allowed = refl
 names_done s (event.Tick millis) valid allowed = keeps_ticks millis s
 names_done s (event.Inject i c bytes) valid allowed = keeps_injects i c bytes s
+names_done s (event.Image tag bytes) valid allowed = keeps_on_host _ s
+names_done s (event.Load i c tag) valid allowed = keeps_loads i c tag s
 names_done s event.Show valid allowed = keeps_shows s
 
 pub names_after : (s : State) (e : Event) → IsValid e → refusal s e ≡ None

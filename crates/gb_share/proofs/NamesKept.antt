@@ -2,6 +2,8 @@
 -- NamesServed has all other events but sends, bridge lines, copies and drops.
 use Rattle.std.proofs.Common.{◌≡◌, ℕ, Bool, true, false, if◌then◌else◌, Option, Some, None, List}
 use Rattle.std.proofs.Common.{[], ◌∷◌, is_some, refl, ◌∙◌}
+use Rattle.gb_base.specs.declared.download.Next.{Next}
+use Rattle.gb_base.specs.declared.download.Next.TheVariants as next
 use Rattle.gb_base.specs.declared.entry.Entry.{Entry}
 use Rattle.gb_base.specs.declared.host_event.HostEvent.{HostEvent}
 use Rattle.gb_base.specs.declared.name.Name.{Name}
@@ -15,16 +17,19 @@ use Rattle.gb_formats.specs.SvcRecords.{SvcAsk}
 use Rattle.gb_machine.specs.Actions.{Action, by_state, change, each, given, nothing, on_bus}
 use Rattle.gb_machine.specs.Actions.{on_host, tell, tell_all, when, ◌▸◌}
 use Rattle.gb_machine.specs.Asking.{asks, asks_with}
-use Rattle.gb_machine.specs.Bus.{Bus, Connection, Request, next_number, request_of}
+use Rattle.gb_machine.specs.Bus.{Bus, Connection, Place, Request, next_number, request_of}
 use Rattle.gb_machine.specs.GivingUp.{cancels, gives_up, ticks, times_out}
 use Rattle.gb_machine.specs.Host.{Host, link_at}
 use Rattle.gb_machine.specs.HostActs.{acts, asked_with, drains, fails, follows, host_asks}
-use Rattle.gb_machine.specs.HostActs.{host_opens, idles, idles_behind, made_for, notices}
-use Rattle.gb_machine.specs.HostActs.{opened_with, turns, with_awaited}
+use Rattle.gb_machine.specs.HostActs.{host_follows, host_opens, idles, idles_behind, made_for}
+use Rattle.gb_machine.specs.HostActs.{notices, opened_with, turns, with_awaited}
 use Rattle.gb_machine.specs.LineActions.{stirred, stirs}
+use Rattle.gb_machine.specs.Loading.{asks_at, asks_next, begins, fails_unasked, goes_on, load_ended}
+use Rattle.gb_machine.specs.Loading.{load_follows, loads}
 use Rattle.gb_machine.specs.OwnAsking.{far_asks, far_asks_all, svc_asks}
 use Rattle.gb_machine.specs.Plugging.{boots, plugs, pulls, pulls_module, pulls_one, recalled}
 use Rattle.gb_machine.specs.Plugging.{tells_inserted, tells_removed, with_told}
+use Rattle.gb_machine.specs.Responding.{disconnects}
 use Rattle.gb_machine.specs.Sending.{Draft}
 use Rattle.gb_machine.specs.SequenceSteps.{is_for_connection}
 use Rattle.gb_machine.specs.State.{Plugged, State}
@@ -195,11 +200,63 @@ keeps_idles_behind : (r : Request) → Keeps (idles_behind r)
 unfolding idles_behind
 keeps_idles_behind r = keeps_when _ _ (keeps_idles r.connection)
 
-pub keeps_follows : (n : ℕ) (how : Outcome) → Keeps (follows n how)
-unfolding follows
-keeps_follows n how =
+keeps_host_follows : (n : ℕ) (how : Outcome) → Keeps (host_follows n how)
+unfolding host_follows
+keeps_host_follows n how =
     keeps_by_state _ (λ s. keeps_then _ _ (keeps_notices _)
     (keeps_given _ _ keeps_idles_behind))
+
+-- ---- firmware downloads
+
+keeps_fails_unasked : (i c : ℕ) (m : Module) → Keeps (fails_unasked i c m)
+unfolding fails_unasked
+keeps_fails_unasked i c m = keeps_then _ _ (keeps_change _ (λ s. refl)) (keeps_tell _)
+
+keeps_asks_next : (o : Option ℕ) (k i c : ℕ) (own : OwnAsk) (m : Module)
+    → Keeps (asks_next o k i c own m)
+unfolding asks_next
+keeps_asks_next None k i c own m = keeps_fails_unasked i c m
+keeps_asks_next (Some label) k i c own m =
+    keeps_by_state _ (λ s. keeps_then _ _ (keeps_far_asks k own) (keeps_change _ (λ t. refl)))
+
+keeps_asks_at : (o : Option Place) (i c : ℕ) (own : OwnAsk) (m : Module)
+    → Keeps (asks_at o i c own m)
+unfolding asks_at
+keeps_asks_at None i c own m = keeps_fails_unasked i c m
+keeps_asks_at (Some p) i c own m =
+    keeps_by_state _ (λ s. keeps_asks_next _ p.connection.number i c own m)
+
+keeps_goes_on : (i c : ℕ) (n : Next) (m : Module) → Keeps (goes_on i c n m)
+unfolding goes_on
+keeps_goes_on i c (next.Ask own) m = keeps_by_state _ (λ s. keeps_asks_at _ i c own m)
+keeps_goes_on i c (next.Done tag size) m =
+    keeps_then _ _ (keeps_change _ (λ s. refl)) (keeps_tell _)
+keeps_goes_on i c (next.Failed tag) m =
+    keeps_then _ _ (keeps_change _ (λ s. refl)) (keeps_tell _)
+
+keeps_load_follows : (n : ℕ) (how : Outcome) → Keeps (load_follows n how)
+unfolding load_follows load_ended
+keeps_load_follows n how =
+    keeps_by_state _ (λ s. keeps_given _ _ (λ l. keeps_by_state _ (λ t. keeps_given _ _ (λ m.
+    keeps_given _ _ (λ u. keeps_goes_on l.intf l.cport u.next u.after)))))
+
+pub keeps_loads : (i c : ℕ) (tag : List ℕ) → Keeps (loads i c tag)
+unfolding loads begins
+keeps_loads i c tag =
+    keeps_by_state _ (λ s. keeps_given _ _ (λ p. keeps_given _ _ (λ m. keeps_by_state _ (λ t.
+    keeps_then _ _ (keeps_far_asks p.connection.number _) (keeps_change _ (λ u. refl))))))
+
+pub keeps_disconnects : (k : ℕ) → Keeps (disconnects k)
+unfolding disconnects
+keeps_disconnects k =
+    keeps_by_state _ (λ s. keeps_then _ _ (keeps_unwires k)
+    (keeps_each _ _ (λ n. keeps_load_follows n _)))
+
+-- ---- requests that ended
+
+pub keeps_follows : (n : ℕ) (how : Outcome) → Keeps (follows n how)
+unfolding follows
+keeps_follows n how = keeps_then _ _ (keeps_host_follows n how) (keeps_load_follows n how)
 
 pub keeps_drains : (i c : ℕ) → Keeps (drains i c)
 unfolding drains

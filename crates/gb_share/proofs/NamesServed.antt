@@ -23,21 +23,21 @@ use Rattle.gb_machine.specs.Incoming.{Incoming}
 use Rattle.gb_machine.specs.LineActions.{answers, answers_at, answers_held, holds, injects}
 use Rattle.gb_machine.specs.LineActions.{injects_at, serves_held}
 use Rattle.gb_machine.specs.Modules.{module_at}
-use Rattle.gb_machine.specs.Responding.{Response, creates, destroys, far_response, host_behind}
-use Rattle.gb_machine.specs.Responding.{module_response, replies, responds, responds_plainly}
-use Rattle.gb_machine.specs.Responding.{responds_with, response_at, serves, serves_oneway}
-use Rattle.gb_machine.specs.Responding.{svc_decided, unroutes, with_ports}
+use Rattle.gb_machine.specs.Responding.{Response, creates, destroys, disconnects, far_response}
+use Rattle.gb_machine.specs.Responding.{host_behind, module_response, replies, responds}
+use Rattle.gb_machine.specs.Responding.{responds_plainly, responds_with, response_at, serves}
+use Rattle.gb_machine.specs.Responding.{serves_oneway, svc_decided, unroutes, with_ports}
 use Rattle.gb_machine.specs.Serving.{Answer, plainly}
 use Rattle.gb_machine.specs.Settling.{settles, settles_at, settles_from}
 use Rattle.gb_machine.specs.State.{State, Port}
 use Rattle.gb_machine.specs.SvcTable.{Answered, Create, Destroy, SvcServed, Unroute, svc_step}
 use Rattle.gb_machine.specs.Waiting.{first_waiting}
-use Rattle.gb_machine.specs.Wires.{unwires, wires}
+use Rattle.gb_machine.specs.Wires.{wires}
 use Rattle.gb_machine.specs.Wiring.{is_wired_to, joining}
-use Rattle.gb_share.proofs.NamesKept.{Keeps, keeps_by_state, keeps_change, keeps_far_asks_all}
-use Rattle.gb_share.proofs.NamesKept.{keeps_follows, keeps_given, keeps_if, keeps_nothing}
-use Rattle.gb_share.proofs.NamesKept.{keeps_notices, keeps_on_bus, keeps_on_host, keeps_tell}
-use Rattle.gb_share.proofs.NamesKept.{keeps_tell_all, keeps_then, keeps_unwires, keeps_wires}
+use Rattle.gb_share.proofs.NamesKept.{Keeps, keeps_by_state, keeps_change, keeps_disconnects}
+use Rattle.gb_share.proofs.NamesKept.{keeps_far_asks_all, keeps_follows, keeps_given, keeps_if}
+use Rattle.gb_share.proofs.NamesKept.{keeps_nothing, keeps_notices, keeps_on_bus, keeps_on_host}
+use Rattle.gb_share.proofs.NamesKept.{keeps_tell, keeps_tell_all, keeps_then, keeps_wires}
 
 -- ---- serving
 
@@ -64,9 +64,9 @@ keeps_destroys : (o : Option Connection) → Keeps (destroys o).behind
 keeps_destroys None = keeps_nothing
 keeps_destroys (Some c) = by c.wired
   where
-    by : (b : Bool) → Keeps (if b then responds_with (plainly success) (unwires c.number)
+    by : (b : Bool) → Keeps (if b then responds_with (plainly success) (disconnects c.number)
         else responds_plainly nonexistent).behind
-    by true = keeps_unwires c.number
+    by true = keeps_disconnects c.number
     by false = keeps_nothing
 
 keeps_unroutes : (b : Bool) (i : ℕ) (ports : List Port) → Keeps (unroutes b i ports).behind
@@ -229,7 +229,8 @@ keeps_answers i c place =
 pub keeps_injects : (i c : ℕ) (bytes : List ℕ) → Keeps (injects i c bytes)
 unfolding injects injects_at
 keeps_injects i c bytes =
-    keeps_by_state _ (λ s. keeps_given _ _ (λ p. keeps_then _ _ (keeps_on_bus _) (keeps_tell _)))
+    keeps_by_state _ (λ s. keeps_given _ _ (λ p.
+    keeps_then _ _ (keeps_change _ (λ t. refl)) (keeps_tell _)))
 
 pub keeps_shows : Keeps shows
 unfolding shows
