@@ -36,8 +36,8 @@ use Rattle.gb_formats.specs.Reasons.{reason_text, refusal_text}
 use Rattle.gb_formats.specs.ShowTexts.{connection_line, device_text, interface_line, name_line}
 use Rattle.gb_formats.specs.ShowTexts.{now_line, queue_line, requester_text, standing_text}
 use Rattle.gb_formats.specs.ShowTexts.{unclean_text}
-use Rattle.gb_formats.specs.Texts.{IsWordOf, answer_text, bad_line, bad_text, download_text, dropped_text}
-use Rattle.gb_formats.specs.Texts.{end_text, ended}
+use Rattle.gb_formats.specs.Texts.{IsWordOf, answer_text, bad_line, bad_text, download_text}
+use Rattle.gb_formats.specs.Texts.{dropped_text, end_text, ended}
 use Rattle.gb_formats.specs.Texts.{entry_line, entry_text, item_text, lost_text, outcome_text}
 use Rattle.gb_formats.specs.Texts.{raw_fault_text, reading_text, refusal_line_text, size_text}
 use Rattle.gb_formats.specs.Texts.{stage_text, state_text, wire_fault_text}
