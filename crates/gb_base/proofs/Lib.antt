@@ -1,5 +1,5 @@
 pub mod Calls
-pub mod Fronts
+pub mod Prefixes
 pub mod LittleEndian
 pub mod Marks
 pub mod Names

@@ -1,6 +1,5 @@
 pub mod Bytes
 pub mod Copies
-pub mod EventGroups
 pub mod Faults
 pub mod Groups
 pub mod Kinds

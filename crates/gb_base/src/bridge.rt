@@ -1,8 +1,10 @@
 //! Requests of the bridged protocols, as a script line asks them.
 
+ghost use Rattle.std.specs.Prelude.{◌≡◌};
 ghost use Rattle.gb_base.specs.Copies.{IsSmallAsk, IsSmallI2cOp, IsSmallSpiOp};
 
 use crate::{Bytes, OutOfMemory, Sequence, TryCopy};
+use std::alloc::AllocError;
 
 /// A request of a bridge line.
 #[derive(Drop)]
@@ -189,6 +191,16 @@ impl TryCopy for BridgeAsk {
                 bytes: bytes.copy()?,
             }),
         }
+    }
+}
+
+impl Clone for BridgeAsk {
+    ghost is_clone = { λ x y. y ≡ x };
+
+    ghost is_infallible = { IsSmallAsk };
+
+    fn clone(&self) -> Result<BridgeAsk, AllocError> {
+        Ok(self.copy()?)
     }
 }
 

@@ -5,7 +5,7 @@ ghost use Rattle.gb_base.specs.Bytes.{AreFew};
 
 use crate::{OutOfMemory, TryCopy};
 use smallvec::SmallVec;
-use std::alloc::Global;
+use std::alloc::{AllocError, Global};
 use std::marker::Model;
 
 /// The bytes of a message, a payload or a manifest. Up to 16 take no memory of their own. They keep
@@ -91,5 +91,15 @@ impl TryCopy for Bytes {
         Ok(Bytes {
             bytes: SmallVec::from_slice(*self.bytes.allocator(), self.bytes.as_slice())?,
         })
+    }
+}
+
+impl Clone for Bytes {
+    ghost is_clone = { λ x y. y ≡ x };
+
+    ghost is_infallible = { AreFew };
+
+    fn clone(&self) -> Result<Bytes, AllocError> {
+        Ok(self.copy()?)
     }
 }

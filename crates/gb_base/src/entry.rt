@@ -1,6 +1,11 @@
 //! What an event brings about, one entry for each line of the report.
 
-use crate::{Bytes, End, Outcome, RawFault, Reading, Reason, Refusal, Sequence, Tag, Text};
+ghost use Rattle.gb_base.specs.Copies.{IsSmallEntry};
+
+use crate::{
+    Bytes, End, OutOfMemory, Outcome, RawFault, Reading, Reason, Refusal, Sequence, Tag, Text,
+    TryCopy,
+};
 
 /// The state of a connection, as the report tells it.
 #[derive(Clone, Copy, Debug, PartialEq, Eq)]
@@ -36,7 +41,7 @@ pub enum IntfStage {
 pub type Entries = Sequence<Entry>;
 
 /// One thing that an event brings about. `number` is a request's, None where the item is raw bytes.
-#[derive(Drop)]
+#[derive(Clone, Drop)]
 pub enum Entry {
     /// The event is done.
     Done,
@@ -221,4 +226,12 @@ pub enum Entry {
         /// The line, without its end.
         text: Text,
     },
+}
+
+impl TryCopy for Entry {
+    ghost is_infallible = { IsSmallEntry };
+
+    fn copy(&self) -> Result<Entry, OutOfMemory> {
+        Ok(self.clone()?)
+    }
 }

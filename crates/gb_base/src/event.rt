@@ -1,6 +1,8 @@
 //! The events of the bus, one for each line of a script.
 
-use crate::{BridgeAsk, Bytes, End, Kinds, Name, Tag};
+ghost use Rattle.gb_base.specs.Copies.{IsSmallEvent};
+
+use crate::{BridgeAsk, Bytes, End, Kinds, Name, OutOfMemory, Tag, TryCopy};
 
 /// The kinds of interface that a script can plug by name.
 #[derive(Clone, Copy, Debug, Default, PartialEq, Eq)]
@@ -23,7 +25,7 @@ pub enum Kind {
 }
 
 /// One event of the bus. `intf` is 2 to 31 and `cport` 0 to 4,095.
-#[derive(Drop)]
+#[derive(Clone, Drop)]
 pub enum Event {
     /// The supervisory controller starts.
     Boot,
@@ -187,4 +189,12 @@ pub enum Event {
     },
     /// The state is shown.
     Show,
+}
+
+impl TryCopy for Event {
+    ghost is_infallible = { IsSmallEvent };
+
+    fn copy(&self) -> Result<Event, OutOfMemory> {
+        Ok(self.clone()?)
+    }
 }

@@ -1,6 +1,6 @@
 //! The history of a bus that several callers share.
 
-use crate::{Entries, Event, Sequence};
+use crate::{Entries, Event};
 
 /// One event of a history, and what it brought about.
 #[derive(Drop)]
@@ -12,6 +12,3 @@ pub struct JournalEntry {
     /// What was answered.
     pub entries: Entries,
 }
-
-/// A history: its events in the order in which they were done.
-pub type Journal = Sequence<JournalEntry>;

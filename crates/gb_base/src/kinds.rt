@@ -5,6 +5,7 @@ ghost use Rattle.gb_base.specs.Kinds.{most_kinds};
 
 use crate::{Kind, OutOfMemory, TryCopy};
 use arrayvec::ArrayVec;
+use std::alloc::AllocError;
 use std::marker::Model;
 
 /// The most interfaces of a module.
@@ -62,5 +63,15 @@ impl TryCopy for Kinds {
     fn copy(&self) -> Result<Kinds, OutOfMemory> {
         let kinds = ArrayVec::try_from(self.kinds.as_slice()).unwrap();
         Ok(Kinds { kinds })
+    }
+}
+
+impl Clone for Kinds {
+    ghost is_clone = { λ x y. y ≡ x };
+
+    ghost is_infallible = { λ _. ⊤ };
+
+    fn clone(&self) -> Result<Kinds, AllocError> {
+        Ok(self.copy()?)
     }
 }

@@ -7,6 +7,7 @@ ghost use Rattle.gb_base.specs.Name.{is_name, is_name_byte};
 
 use crate::{OutOfMemory, TryCopy};
 use arrayvec::ArrayString;
+use std::alloc::AllocError;
 use std::marker::Model;
 use std::str;
 
@@ -94,8 +95,18 @@ impl TryCopy for Word {
     }
 }
 
+impl Clone for Word {
+    ghost is_clone = { λ x y. y ≡ x };
+
+    ghost is_infallible = { λ _. ⊤ };
+
+    fn clone(&self) -> Result<Word, AllocError> {
+        Ok(self.copy()?)
+    }
+}
+
 /// A name that a script gave to a request.
-#[derive(Drop, PartialEq, Eq)]
+#[derive(Clone, Drop, PartialEq, Eq)]
 pub struct Name {
     /// The requester to whom the name belongs: 0 in a script of one requester.
     pub who: u8,
@@ -107,9 +118,6 @@ impl TryCopy for Name {
     ghost is_infallible = { λ _. ⊤ };
 
     fn copy(&self) -> Result<Name, OutOfMemory> {
-        Ok(Name {
-            who: self.who,
-            word: self.word.copy()?,
-        })
+        Ok(self.clone()?)
     }
 }

@@ -5,7 +5,7 @@ ghost use Rattle.gb_base.specs.Copies.{IsSmallOutcome};
 use crate::{Bytes, OutOfMemory, TryCopy};
 
 /// How a request ended.
-#[derive(Drop)]
+#[derive(Clone, Drop)]
 pub enum Outcome {
     /// Its responder answered.
     Answered {
@@ -28,15 +28,6 @@ impl TryCopy for Outcome {
     ghost is_infallible = { IsSmallOutcome };
 
     fn copy(&self) -> Result<Outcome, OutOfMemory> {
-        match self {
-            Outcome::Answered { result, payload } => Ok(Outcome::Answered {
-                result: *result,
-                payload: payload.copy()?,
-            }),
-            Outcome::Cancelled => Ok(Outcome::Cancelled),
-            Outcome::Timeout => Ok(Outcome::Timeout),
-            Outcome::Disconnected => Ok(Outcome::Disconnected),
-            Outcome::Sent => Ok(Outcome::Sent),
-        }
+        Ok(self.clone()?)
     }
 }

@@ -1,12 +1,13 @@
 //! Tags of firmware images.
 
-ghost use Rattle.std.specs.Prelude.{◌≡◌, if◌then◌else◌, Some, None, nat_eq, IsAscii, IsTrue};
+ghost use Rattle.std.specs.Prelude.{◌≡◌, if◌then◌else◌, Some, None, nat_eq, IsAscii, IsTrue, ⊤};
 ghost use Rattle.std.specs.Cmp.{partial_equiv_from_equiv};
 ghost use Rattle.std.specs.Cmp.Lexicographic.{pointwise, nat_list_eq_equiv};
 ghost use Rattle.gb_base.specs.Tag.{is_tag};
 
 use crate::name::is_name_byte;
 use arrayvec::ArrayString;
+use std::alloc::AllocError;
 use std::marker::Model;
 use std::str;
 
@@ -87,4 +88,14 @@ impl PartialEq for Tag {
 
 impl Eq for Tag {
     ghost laws = { nat_list_eq_equiv };
+}
+
+impl Clone for Tag {
+    ghost is_clone = { λ x y. y ≡ x };
+
+    ghost is_infallible = { λ _. ⊤ };
+
+    fn clone(&self) -> Result<Tag, AllocError> {
+        Ok(self.copied())
+    }
 }

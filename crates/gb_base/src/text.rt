@@ -3,7 +3,7 @@
 ghost use Rattle.std.specs.Prelude.{◌≡◌, ◌<◌, [], ◌∷◌, ◌++◌, OnOk, OnErr, IsAscii};
 
 use crate::{OutOfMemory, TryCopy};
-use std::alloc::Global;
+use std::alloc::{AllocError, Global};
 use std::marker::Model;
 
 /// A text that grows at its end. Its members are bytes below 0x80.
@@ -73,5 +73,13 @@ impl TryCopy for Text {
         Ok(Text {
             bytes: self.bytes.clone()?,
         })
+    }
+}
+
+impl Clone for Text {
+    ghost is_clone = { λ x y. y ≡ x };
+
+    fn clone(&self) -> Result<Text, AllocError> {
+        Ok(self.copy()?)
     }
 }

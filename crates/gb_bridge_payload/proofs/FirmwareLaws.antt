@@ -8,7 +8,7 @@ use Rattle.gb_formats.specs.FirmwareRecords.{firmware_reply_payload, read_firmwa
 use Rattle.gb_formats.specs.FirmwareRecords.{read_firmware_reply, tag_field}
 use Rattle.gb_formats.specs.Records.{read_table, row_of, whole}
 use Rattle.gb_payload.proofs.Places.{one_size}
-use Rattle.gb_payload.proofs.Tables.{AreSpelt, ◌&◌, is_row, means_whole}
+use Rattle.gb_payload.proofs.Tables.{AreSpelt, is_row, means_whole}
 use Rattle.gb_bridge_payload.specs.Protocols as formats
 use Rattle.gb_bridge_payload.proofs.Types.{MeansBy, by_table, by_type, means_all}
 
@@ -16,10 +16,7 @@ use Rattle.gb_bridge_payload.proofs.Types.{MeansBy, by_table, by_type, means_all
 
 -- the rows but for FIND
 firmware_asks_spelt : AreSpelt firmware_ask_kind firmware_ask_payload firmware_asks
-firmware_asks_spelt =
-    record { widths = refl; kind = λ bytes. refl; payload = λ bytes. refl }
-    & record { widths = refl; kind = λ bytes. refl; payload = λ bytes. refl }
-    & tt
+firmware_asks_spelt = search parts 40
 
 firmware_asks_listed : (made : FirmwareAsk) → firmware_ask_kind made ≢ 1
     → row_of firmware_asks (firmware_ask_kind made) ≢ None
@@ -43,10 +40,7 @@ firmware_ask_means {B} view kind payload b =
 
 -- the rows but for FETCH
 firmware_replies_spelt : AreSpelt firmware_reply_kind firmware_reply_payload firmware_replies
-firmware_replies_spelt =
-    record { widths = refl; kind = λ bytes. refl; payload = λ bytes. refl }
-    & record { widths = refl; kind = λ bytes. refl; payload = λ bytes. refl }
-    & tt
+firmware_replies_spelt = search parts 40
 
 firmware_replies_listed : (made : FirmwareReply) → firmware_reply_kind made ≢ 2
     → row_of firmware_replies (firmware_reply_kind made) ≢ None

@@ -14,7 +14,7 @@ use Rattle.gb_formats.specs.LoopbackRecords.{read_loopback_ask, read_loopback_re
 use Rattle.gb_formats.specs.Records.{PayloadFault, le32, read_table, row_of}
 use Rattle.gb_payload.specs.Meaning.{Format}
 use Rattle.gb_payload.proofs.Places.{IsSize, whole_is}
-use Rattle.gb_payload.proofs.Tables.{AreSpelt, ◌&◌, is_row, means_whole}
+use Rattle.gb_payload.proofs.Tables.{AreSpelt, is_row, means_whole}
 use Rattle.gb_bridge_payload.specs.Protocols as formats
 use Rattle.gb_bridge_payload.specs.Views.{Pieces, pieces}
 use Rattle.gb_bridge_payload.proofs.Numbers.{agree_front, agree_less, agree_zeros, four_bytes}
@@ -68,7 +68,7 @@ carried_spelt (a ∷ c ∷ d ∷ e ∷ f ∷ g ∷ i ∷ j ∷ k ∷ l ∷ m ∷
 
 -- the row of PING
 loopback_asks_spelt : AreSpelt loopback_ask_kind loopback_ask_payload loopback_asks
-loopback_asks_spelt = record { widths = refl; kind = λ bytes. refl; payload = λ bytes. refl } & tt
+loopback_asks_spelt = search parts 40
 
 loopback_asks_listed : (made : LoopbackAsk)
     → loopback_ask_kind made ≢ 3 → loopback_ask_kind made ≢ 4
@@ -100,10 +100,7 @@ loopback_ask_means {B} view kind payload b =
 
 -- the rows but for TRANSFER
 loopback_replies_spelt : AreSpelt loopback_reply_kind loopback_reply_payload loopback_replies
-loopback_replies_spelt =
-    record { widths = refl; kind = λ bytes. refl; payload = λ bytes. refl }
-    & record { widths = refl; kind = λ bytes. refl; payload = λ bytes. refl }
-    & tt
+loopback_replies_spelt = search parts 40
 
 loopback_replies_listed : (made : LoopbackReply) → loopback_reply_kind made ≢ 3
     → row_of loopback_replies (loopback_reply_kind made) ≢ None

@@ -12,7 +12,7 @@ use Rattle.gb_formats.specs.UartRecords.{UartAsk, uart_asks, uart_ask_kind, uart
 use Rattle.gb_formats.specs.UartRecords.{read_uart_ask, read_send, read_receive, UartReply}
 use Rattle.gb_formats.specs.UartRecords.{uart_replies, uart_reply_kind, uart_reply_payload}
 use Rattle.gb_payload.proofs.Places.{IsSize}
-use Rattle.gb_payload.proofs.Tables.{AreSpelt, ◌&◌, is_row, means_whole}
+use Rattle.gb_payload.proofs.Tables.{AreSpelt, is_row, means_whole}
 use Rattle.gb_bridge_payload.specs.Protocols as formats
 use Rattle.gb_bridge_payload.proofs.Numbers.{agree_front, agree_less, agree_zeros, number_same}
 use Rattle.gb_bridge_payload.proofs.Types.{MeansBy, by_table, by_type}
@@ -60,25 +60,13 @@ receive_spelt (x ∷ y ∷ flags ∷ rest) b h =
 
 -- the rows but for SEND_DATA and RECEIVE_DATA
 pub uart_asks_spelt : AreSpelt uart_ask_kind uart_ask_payload uart_asks
-uart_asks_spelt =
-    record { widths = refl; kind = λ bytes. refl; payload = λ bytes. refl }
-    & record { widths = refl; kind = λ bytes. refl; payload = λ bytes. refl }
-    & record { widths = refl; kind = λ bytes. refl; payload = λ bytes. refl }
-    & record { widths = refl; kind = λ bytes. refl; payload = λ bytes. refl }
-    & record { widths = refl; kind = λ bytes. refl; payload = λ bytes. refl }
-    & record { widths = refl; kind = λ bytes. refl; payload = λ bytes. refl }
-    & tt
+uart_asks_spelt = search parts 40
 
 pub uart_asks_listed : (made : UartAsk)
     → uart_ask_kind made ≢ 2 → uart_ask_kind made ≢ 3 → row_of uart_asks (uart_ask_kind made) ≢ None
 uart_asks_listed (UartAsk.SendData bytes) other more = absurd (other refl)
 uart_asks_listed (UartAsk.ReceiveData flags bytes) other more = absurd (more refl)
-uart_asks_listed (UartAsk.SetLineCoding rate format parity bits flow) other more = is_row _
-uart_asks_listed (UartAsk.SetControlLineState control) other more = is_row _
-uart_asks_listed (UartAsk.SendBreak state) other more = is_row _
-uart_asks_listed (UartAsk.SerialState control) other more = is_row _
-uart_asks_listed (UartAsk.ReceiveCredits count) other more = is_row _
-uart_asks_listed (UartAsk.FlushFifos flags) other more = is_row _
+uart_asks_listed _ other more = is_row _
 
 -- what reading a request means
 pub uart_ask_means : {B : Type 0} (view : B → UartAsk) (kind : ℕ) (payload : List ℕ)
@@ -98,24 +86,9 @@ uart_ask_means {B} view kind payload b =
 
 -- the rows of responses
 pub uart_replies_spelt : AreSpelt uart_reply_kind uart_reply_payload uart_replies
-uart_replies_spelt =
-    record { widths = refl; kind = λ bytes. refl; payload = λ bytes. refl }
-    & record { widths = refl; kind = λ bytes. refl; payload = λ bytes. refl }
-    & record { widths = refl; kind = λ bytes. refl; payload = λ bytes. refl }
-    & record { widths = refl; kind = λ bytes. refl; payload = λ bytes. refl }
-    & record { widths = refl; kind = λ bytes. refl; payload = λ bytes. refl }
-    & record { widths = refl; kind = λ bytes. refl; payload = λ bytes. refl }
-    & record { widths = refl; kind = λ bytes. refl; payload = λ bytes. refl }
-    & record { widths = refl; kind = λ bytes. refl; payload = λ bytes. refl }
-    & tt
+uart_replies_spelt = search parts 40
 
 -- each of them has a row
 pub uart_replies_listed : (made : UartReply) → row_of uart_replies (uart_reply_kind made) ≢ None
 uart_replies_listed UartReply.SendData = is_row _
-uart_replies_listed UartReply.ReceiveData = is_row _
-uart_replies_listed UartReply.SetLineCoding = is_row _
-uart_replies_listed UartReply.SetControlLineState = is_row _
-uart_replies_listed UartReply.SendBreak = is_row _
-uart_replies_listed UartReply.SerialState = is_row _
-uart_replies_listed UartReply.ReceiveCredits = is_row _
-uart_replies_listed UartReply.FlushFifos = is_row _
+uart_replies_listed _ = is_row _

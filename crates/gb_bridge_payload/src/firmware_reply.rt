@@ -14,8 +14,8 @@ use gb_base::NoRoom;
 use gb_payload::Field::{Bytes, U8, U32};
 use gb_payload::{PayloadFault, put, read_record};
 
-/// A response of the Firmware Download protocol (Greybus Specification, "Firmware Download
-/// Protocol").
+/// A response of the Firmware Download protocol (Greybus Specification, "Firmware
+/// Download Protocol").
 #[derive(Clone, Copy, PartialEq, Eq)]
 pub enum FirmwareReply<'a> {
     /// The image is lent.

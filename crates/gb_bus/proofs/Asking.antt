@@ -1,7 +1,8 @@
 -- What is seen of the live connections where a request is made on one.
 use Rattle.std.proofs.Common.{◌≡◌, ℕ, Bool, true, false, cond, not, Option, Some, None}
-use Rattle.std.proofs.Common.{option_and_then, Ok, Err, List, refl, sym, ap, ◌∙◌}
-use Rattle.std.proofs.Common.{subst}
+use Rattle.std.proofs.Common.{is_some, option_and_then, option_map, Result, Ok, Err, List, refl}
+use Rattle.std.proofs.Common.{sym, ap, ◌∙◌, subst}
+use Rattle.std.specs.List.{find}
 use Rattle.std.specs.Map.{lookup, set_value}
 use Rattle.std.specs.Prelude.{nat_eq}
 use Rattle.indexmap.specs.IndexMap.{get}
@@ -10,12 +11,12 @@ use Rattle.gb_base.specs.declared.end.Side.{Side}
 use Rattle.gb_bus.proofs.Entries.{same-some, set-here, some-none}
 use Rattle.gb_bus.proofs.Opening.{same-ok}
 use Rattle.gb_bus.proofs.Keeping.{Queues, kept-set}
-use Rattle.gb_bus.proofs.Seeing.{finds, next-seen}
+use Rattle.gb_bus.proofs.SeeingChanges.{finds, next-seen}
 use Rattle.gb_bus.proofs.SeeingQueues.{pushes, put-unwired}
 use Rattle.gb_bus.proofs.SeeingSides.{put-back, side-changes}
 use Rattle.gb_bus.specs.Connection.{Connection}
-use Rattle.gb_bus.specs.Index.{ChangesBy, Ends, Kept, Leaves, Live}
-use Rattle.gb_bus.specs.Parts.{end_at, next_of}
+use Rattle.gb_bus.specs.Index.{ChangesBy, Ends, MapsAgree, Leaves, Live}
+use Rattle.gb_bus.specs.Parts.{end_at, next_of, numbered}
 use Rattle.gb_bus.specs.Seen.{all_seen, alone, seen}
 use Rattle.gb_bus.specs.Sides.{Asks, AsksIn, AsksOn, HasEndsOf, LabelsIn, LabelsOn, toward}
 use Rattle.gb_bus.specs.declared.answers.SendFault.{SendFault}
@@ -28,7 +29,7 @@ use Rattle.gb_switch.specs.Queues.{Appends, items_at}
 
 -- the identifier of the request
 labels : (live live' : Live) (ends : Ends) (q : Queues) (k : ℕ) (s : Side) (n deadline : ℕ)
-    (oneway : Bool) (label : ℕ) (x y : code.Connection) → Kept live ends q
+    (oneway : Bool) (label : ℕ) (x y : code.Connection) → MapsAgree live ends q
     → get nat_eq live k ≡ Some x → live'.entries ≡ set_value (nat_eq k) live.entries y
     → LabelsOn (alone 0 x) (alone 0 y) s n deadline oneway (Ok label)
     → LabelsIn (all_seen q live.entries) (all_seen q live'.entries) k s n deadline oneway label
@@ -37,38 +38,48 @@ labels live live' ends q k s n deadline true label x y kept found now h =
 labels live live' ends q k s n deadline false label x y kept found now h =
     side-changes live live' ends q k s x y (λ v u. Begins v u n deadline label) kept found now h
 
--- ---- no identifier was had
+-- ---- it isn't made
+
+-- what is answered then
+abbrev refused : SendFault → Result (ℕ × Option End) SendFault
+refused e = Err e
 
 pub asks-none : (live live' : Live) (ends : Ends) (q : Queues) (k : ℕ) (s : Side) (n kind : ℕ)
-    (payload : List ℕ) (deadline : ℕ) (oneway : Bool) (e : SendFault) → Kept live ends q
+    (payload : List ℕ) (deadline : ℕ) (oneway : Bool) (e : SendFault) → MapsAgree live ends q
     → ChangesBy live live' k (λ x y. AsksOn x y s n deadline oneway (Err e) × HasEndsOf x y)
     → (get nat_eq live k ≡ None → Leaves live live')
+    → (get nat_eq live k ≡ None → refused e ≡ refused fault.NoConnection)
     → AsksIn (all_seen q live.entries) (all_seen q live'.entries) k s n kind payload deadline oneway
     (Err e)
-asks-none live live' ends q k s n kind payload deadline oneway (fault.Memory m) kept there none =
-    tt
-asks-none live live' ends q k s n kind payload deadline oneway fault.NoLabel kept there none =
-    by (get nat_eq live k) refl oneway there
+asks-none live live' ends q k s n kind payload deadline oneway e kept there none fails =
+    by (get nat_eq live k) refl e oneway there fails
   where
-    by : (o : Option code.Connection) → get nat_eq live k ≡ o → (b : Bool)
-        → ChangesBy live live' k (λ x y. AsksOn x y s n deadline b (Err fault.NoLabel)
-        × HasEndsOf x y)
+    gone : (o : Option code.Connection) → get nat_eq live k ≡ o
+        → find (numbered k) (all_seen q live.entries) ≡ option_map (seen q k) o
+    gone o is = finds live q (all_seen q live.entries) k o refl is
+
+    by : (o : Option code.Connection) → get nat_eq live k ≡ o → (f : SendFault) → (b : Bool)
+        → ChangesBy live live' k (λ x y. AsksOn x y s n deadline b (Err f) × HasEndsOf x y)
+        → (get nat_eq live k ≡ None → refused f ≡ refused fault.NoConnection)
         → AsksIn (all_seen q live.entries) (all_seen q live'.entries) k s n kind payload deadline b
-        (Err fault.NoLabel)
-    by None e true h =
-        (finds live q (all_seen q live.entries) k None refl e, ap (all_seen q) (none e))
-    by None e false h = (
-      ap (option_and_then (next_of s)) (finds live q (all_seen q live.entries) k None refl e),
-      ap (all_seen q) (none e),
-    )
-    by (Some x) e true h = absurd (cc ((h x e).did.0.0))
-    by (Some x) e false h =
-        let w = h x e in (
-          ap (option_and_then (next_of s))
-              (finds live q (all_seen q live.entries) k (Some x) refl e)
-              ∙ sym (next-seen q k x s) ∙ w.did.0.0,
-          put-back live live' ends q k x w.after kept e w.now w.did.0.1,
+        (Err f)
+    by None is fault.NoLabel b h fails = absurd (cc (fails is))
+    by None is fault.NoConnection b h fails = (gone None is, ap (all_seen q) (none is))
+    by None is (fault.Memory m) b h fails = absurd (cc (fails is))
+    by (Some x) is fault.NoLabel true h fails = absurd (cc ((h x is).did.0.0))
+    by (Some x) is fault.NoLabel false h fails =
+        let w = h x is in (
+          record {
+            live = ap is_some (gone (Some x) is);
+            needs = refl;
+            spent = ap (option_and_then (next_of s)) (gone (Some x) is)
+                ∙ sym (next-seen q k x s) ∙ w.did.0.0;
+          },
+          put-back live live' ends q k x w.after kept is w.now w.did.0.1,
         )
+    by (Some x) is fault.NoConnection true h fails = absurd (cc ((h x is).did.0.0))
+    by (Some x) is fault.NoConnection false h fails = absurd (h x is).did.0
+    by (Some x) is (fault.Memory m) b h fails = ap is_some (gone (Some x) is)
 
 -- ---- the request is made
 
@@ -80,15 +91,15 @@ pub record Made (live live' : Live) (ends : Ends) (q : Queues) (k : ℕ) (s : Si
   pub found : get nat_eq live k ≡ Some before
   pub there : get nat_eq live' k ≡ Some after
   pub wire : after.wired ≡ before.wired
-  pub stays : Kept live' ends q
+  pub stays : MapsAgree live' ends q
   pub labels_are : LabelsIn (all_seen q live.entries) (all_seen q live'.entries) k s n deadline
       oneway a.0
   pub goes : a.1 ≡ toward (other_side s) (alone 0 after)
 
 pub made : (live live' : Live) (ends : Ends) (q : Queues) (k : ℕ) (s : Side) (n deadline : ℕ)
-    (oneway : Bool) (a : ℕ × Option End) → Kept live ends q
+    (oneway : Bool) (a : ℕ × Option End) → MapsAgree live ends q
     → ChangesBy live live' k (λ x y. AsksOn x y s n deadline oneway (Ok a) × HasEndsOf x y)
-    → (get nat_eq live k ≡ None → Ok a ≡ Err fault.NoLabel)
+    → (get nat_eq live k ≡ None → Ok a ≡ Err fault.NoConnection)
     → Made live live' ends q k s n deadline oneway a
 made live live' ends q k s n deadline oneway a kept there fails = by (get nat_eq live k) refl
   where
@@ -110,6 +121,17 @@ made live live' ends q k s n deadline oneway a kept there fails = by (get nat_eq
           goes = w.did.0.1;
         }
 
+-- the connection is live
+pub asks-live : (live live' : Live) (ends : Ends) (q : Queues) (xs : List Connection) (k : ℕ)
+    (s : Side) (n deadline : ℕ) (oneway : Bool) (a : ℕ × Option End) → MapsAgree live ends q
+    → all_seen q live.entries ≡ xs
+    → ChangesBy live live' k (λ x y. AsksOn x y s n deadline oneway (Ok a) × HasEndsOf x y)
+    → (get nat_eq live k ≡ None → Ok a ≡ Err fault.NoConnection)
+    → is_some (find (numbered k) xs) ≡ true
+asks-live live live' ends q xs k s n deadline oneway a kept view there fails =
+    let m = made live live' ends q k s n deadline oneway a kept there fails in
+    ap is_some (finds live q xs k (Some m.before) view m.found)
+
 nowhere : (c : Connection) (s : Side) → toward s c ≡ None → c.wired ≡ false
 nowhere c s e = by c.wired e
   where
@@ -128,9 +150,9 @@ somewhere c s at e = by c.wired e
 -- it is lost
 pub asks-lost : (live live' : Live) (ends : Ends) (q : Queues) (xs : List Connection) (k : ℕ)
     (s : Side) (n kind : ℕ) (payload : List ℕ) (deadline : ℕ) (oneway : Bool)
-    (a : ℕ × Option End) → Kept live ends q → all_seen q live.entries ≡ xs
+    (a : ℕ × Option End) → MapsAgree live ends q → all_seen q live.entries ≡ xs
     → ChangesBy live live' k (λ x y. AsksOn x y s n deadline oneway (Ok a) × HasEndsOf x y)
-    → (get nat_eq live k ≡ None → Ok a ≡ Err fault.NoLabel) → a.1 ≡ None
+    → (get nat_eq live k ≡ None → Ok a ≡ Err fault.NoConnection) → a.1 ≡ None
     → Asks xs (all_seen q live'.entries) k s n kind payload deadline oneway a.0 true
 asks-lost live live' ends q xs k s n kind payload deadline oneway a kept view there fails none =
     let m = made live live' ends q k s n deadline oneway a kept there fails in
@@ -149,9 +171,9 @@ asks-lost live live' ends q xs k s n kind payload deadline oneway a kept view th
 -- it waits
 pub asks-waits : (live live' : Live) (ends : Ends) (q r : Queues) (xs : List Connection) (k : ℕ)
     (s : Side) (n kind : ℕ) (payload : List ℕ) (deadline : ℕ) (oneway : Bool)
-    (a : ℕ × Option End) (at : End) → Kept live ends q → all_seen q live.entries ≡ xs
+    (a : ℕ × Option End) (at : End) → MapsAgree live ends q → all_seen q live.entries ≡ xs
     → ChangesBy live live' k (λ x y. AsksOn x y s n deadline oneway (Ok a) × HasEndsOf x y)
-    → (get nat_eq live k ≡ None → Ok a ≡ Err fault.NoLabel) → a.1 ≡ Some at
+    → (get nat_eq live k ≡ None → Ok a ≡ Err fault.NoConnection) → a.1 ≡ Some at
     → Appends (items_at q) (items_at r) at (item.Ask n a.0 kind payload)
     → Asks xs (all_seen r live'.entries) k s n kind payload deadline oneway a.0 false
 asks-waits live live' ends q r xs k s n kind payload deadline oneway a at kept view there fails is

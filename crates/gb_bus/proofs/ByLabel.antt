@@ -4,14 +4,14 @@ use Rattle.std.proofs.Common.{option_and_then, List, refl, sym, ap, ◌∙◌, i
 use Rattle.gb_base.specs.declared.end.Side.{Side}
 use Rattle.gb_bus.proofs.Endings.{Said, over, said, still}
 use Rattle.gb_bus.proofs.Loosening.{fits-without}
-use Rattle.gb_bus.proofs.Moves.{shown-changed}
+use Rattle.gb_bus.proofs.ConnectionChanges.{shown-changed}
 use Rattle.gb_bus.proofs.SideMoves.{before}
 use Rattle.gb_bus.proofs.Sides.{match-late, match-open, sides-ended, sides-forgotten}
 use Rattle.gb_bus.proofs.Taken.{Taken, loose_at, settled, stands-ended}
 use Rattle.gb_bus.proofs.Taken.{stands-forgotten, unclean-none}
 use Rattle.gb_bus.specs.Connection.{Connection}
 use Rattle.gb_bus.specs.Delivering.{Brings, Response, response, response_in, taken_at}
-use Rattle.gb_bus.specs.Moving.{Labelled, Labels, Opens, with_connections}
+use Rattle.gb_bus.specs.Moving.{Labelled, Labels, EndsOpen, with_connections}
 use Rattle.gb_bus.specs.Parts.{ops_of}
 use Rattle.gb_bus.specs.Sides.{ChangesSide, IsNotOf, MatchesIn, is_other}
 use Rattle.gb_bus.specs.Slots.{slot_at}
@@ -233,10 +233,10 @@ labelled around y z b p item label code payload m a t unclean is = by m
     to w e h = subst (λ (v : Arrival). Brings around z true p b item v) (sym e) h
 
     told : (n : ℕ) (o : Option ℕ) → open_kind (slot_of around.names n b) ≡ o
-        → Opens y z label n code payload (open_kind (slot_at y.slots n)) a
-        → Opens y z label n code payload o a
+        → EndsOpen y z label n code payload (open_kind (slot_at y.slots n)) a
+        → EndsOpen y z label n code payload o a
     told n o e h =
-        subst (λ v. Opens y z label n code payload v a) (ap open_kind (t.shows.slots n) ∙ e) h
+        subst (λ v. EndsOpen y z label n code payload v a) (ap open_kind (t.shows.slots n) ∙ e) h
 
     none : (n : ℕ) (r : Request) (o : Owner k p.side label n after) → request_of n b ≡ Some r
         → NoneAnswers around.items after n
@@ -248,7 +248,7 @@ labelled around y z b p item label code payload m a t unclean is = by m
     opens : (n : ℕ)
         → ChangesSide y.connections z.connections k p.side (λ u v. Ends u v label n)
         → Said around.names b n
-        → Opens y z label n code payload (open_kind (slot_at y.slots n)) a → Goal
+        → EndsOpen y z label n code payload (open_kind (slot_at y.slots n)) a → Goal
     opens n d (still v there unanswered kind_is place_is) h =
         let w = told n (Some v.kind) kind_is h in
         let how = answered code payload in

@@ -6,7 +6,7 @@ use Rattle.gb_base.specs.declared.end.Side.{Side}
 use Rattle.gb_bus.proofs.Cancels.{is-own}
 use Rattle.gb_bus.proofs.Endings.{Said, nothing-forgotten, over, said, still}
 use Rattle.gb_bus.proofs.Loosening.{fits-without}
-use Rattle.gb_bus.proofs.Moves.{shown-changed}
+use Rattle.gb_bus.proofs.ConnectionChanges.{shown-changed}
 use Rattle.gb_bus.proofs.Sides.{match-late, match-none, match-open, sides-ended, sides-forgotten}
 use Rattle.gb_bus.proofs.Standing.{AreShown}
 use Rattle.gb_bus.proofs.Taken.{Taken, loose_at, stands-ended, stands-forgotten}

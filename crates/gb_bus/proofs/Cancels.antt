@@ -6,13 +6,13 @@ use Rattle.gb_base.specs.declared.end.Side.TheVariants as side
 use Rattle.gb_base.specs.declared.outcome.Outcome.{Outcome}
 use Rattle.gb_bus.proofs.Endings.{Said, over, said, shows-gave_up, still}
 use Rattle.gb_bus.proofs.Finding.{twin}
-use Rattle.gb_bus.proofs.Moves.{ops-seen}
+use Rattle.gb_bus.proofs.ConnectionChanges.{ops-seen}
 use Rattle.gb_bus.proofs.Sides.{sides-gave_up, sides-gave_up_elsewhere}
 use Rattle.gb_bus.proofs.Standing.{AreShown, stays-for}
 use Rattle.gb_bus.specs.Cancelling.{GivesUp}
 use Rattle.gb_bus.specs.Parts.{ops_of}
 use Rattle.gb_bus.specs.Sides.{GivesUpIn, GivesUpWhere}
-use Rattle.gb_bus.specs.Slots.{Kept, MovesAt, ended_at, gives_up_so, open_place, slot_at}
+use Rattle.gb_bus.specs.Slots.{SlotsKept, MovesAt, ended_at, gives_up_so, open_place, slot_at}
 use Rattle.gb_bus.specs.Stands.{Around, KeepSides, Stands, pending_by, pending_of}
 use Rattle.gb_bus.specs.declared.bus.Bus.{Bus}
 use Rattle.gb_bus.specs.Connection.{Connection}
@@ -86,7 +86,7 @@ after around x b cs n how r s made unended (inr e) = record {
 
 -- an open request is given up
 pub gives_up : (around : Around) (x : Bus) (b : machine.Bus) (n : ℕ) (how : Outcome) (k : ℕ)
-    (at : Side) (cs : List Connection) (y : Kept)
+    (at : Side) (cs : List Connection) (y : SlotsKept)
     → Stands around x b → open_place (slot_at x.slots n) ≡ Some (k, at)
     → GivesUpIn x.connections cs k at n
     → MovesAt n (gives_up_so how) (ended_at n how x.slots) x.slots y

@@ -10,7 +10,7 @@ use Rattle.gb_bus.proofs.Endings.{not-open, same-test}
 use Rattle.gb_bus.proofs.Listed.{those-are}
 use Rattle.gb_bus.specs.Counting.{Tells, one_ended}
 use Rattle.gb_bus.specs.Listing.{AreThose, Rises, count, stands_in}
-use Rattle.gb_bus.specs.Slots.{AreOpen, Kept, all_disconnected, closes, is_late_on, is_on}
+use Rattle.gb_bus.specs.Slots.{AreOpen, SlotsKept, all_disconnected, closes, is_late_on, is_on}
 use Rattle.gb_bus.specs.Slots.{is_open_on, is_open_slot, slot_at}
 use Rattle.gb_bus.specs.Stands.{kept, kept_of, slot_of}
 use Rattle.gb_bus.specs.declared.slots.Slot.{Slot}
@@ -159,7 +159,7 @@ is-open-on names b k n at r made own free =
     ∙ ap (λ t. t && true) own
 
 -- The open requests of a side that the slots list are those that the machine has.
-pub opened-on : (x : Kept) (names : List ℕ) (b : machine.Bus) (k : ℕ) (at : Side) (ns : List ℕ)
+pub opened-on : (x : SlotsKept) (names : List ℕ) (b : machine.Bus) (k : ℕ) (at : Side) (ns : List ℕ)
     → ((n : ℕ) → slot_at x n ≡ slot_of names n b)
     → AreThose (λ n. is_open_on k at (slot_at x n)) ns → ns ≡ open_on k at b
 opened-on x names b k at ns tell h =
@@ -171,7 +171,7 @@ opened-on x names b k at ns tell h =
 
 -- ---- the slots once the side is closed
 
-pub tell_closed : (old new : Kept) (names : List ℕ) (b : machine.Bus) (k : ℕ) (at : Side)
+pub tell_closed : (old new : SlotsKept) (names : List ℕ) (b : machine.Bus) (k : ℕ) (at : Side)
     (unended late : List ℕ)
     → ((n : ℕ) → stands_in n unended ≡ is_open_on k at (slot_at old n))
     → ((n : ℕ) → stands_in n late ≡ is_late_on k at (slot_at old n))
@@ -322,7 +322,7 @@ tells-side s b k at tells =
     (side-unended b (open_on k at b) (is_of k at) (λ n i. i)) tells)
 
 -- the slots of these say that they are open
-pub are-open : (x : Kept) (names : List ℕ) (b : machine.Bus) (k : ℕ) (at : Side) (ns : List ℕ)
+pub are-open : (x : SlotsKept) (names : List ℕ) (b : machine.Bus) (k : ℕ) (at : Side) (ns : List ℕ)
     → ((n : ℕ) → slot_at x n ≡ slot_of names n b)
     → AreThose (λ n. is_open_on k at (slot_at x n)) ns → AreOpen ns x
 are-open x names b k at ns tell h = record {

@@ -6,7 +6,7 @@ use Rattle.std.specs.List.{find}
 use Rattle.gb_base.specs.declared.end.End.{End}
 use Rattle.gb_base.specs.declared.end.Side.{Side}
 use Rattle.gb_base.specs.declared.entry.Entry.TheVariants as entry
-use Rattle.gb_base.specs.declared.fault.RawFault.{RawFault}
+use Rattle.gb_base.specs.declared.reasons.RawFault.{RawFault}
 use Rattle.gb_bus.proofs.ByLabel.{labelled-is}
 use Rattle.gb_bus.proofs.ByNumber.{answers}
 use Rattle.gb_bus.proofs.Finding.{place-is, placed, placed_on, told}

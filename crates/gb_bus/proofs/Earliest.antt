@@ -12,7 +12,7 @@ use Rattle.gb_bus.proofs.Entries.{same-some, some-none}
 use Rattle.gb_bus.proofs.Keeping.{Queues}
 use Rattle.gb_bus.specs.Connection.{Connection}
 use Rattle.gb_bus.specs.Ends.{earlier}
-use Rattle.gb_bus.specs.Index.{Ends, IsEndOf, Kept, Live}
+use Rattle.gb_bus.specs.Index.{Ends, IsEndOf, MapsAgree, Live}
 use Rattle.gb_bus.specs.Parts.{earliest_in, earliest_of, is_none_left}
 use Rattle.gb_bus.specs.Seen.{all_seen, items_of, seen}
 use Rattle.gb_bus.specs.declared.connection.Connection as code
@@ -241,7 +241,7 @@ among q (e ∷ es) n x a l w = by (nat_eq n e.0) l (among q es n x a)
     by true m later = inl (subst (λ c. WaitsOn (seen q e.0 c) a) (sym (same-some e.1 x m)) (w e.0))
     by false m later = inr (later m w)
 
-pub has-in : (live : Live) (ends : Ends) (q : Queues) (a : End) → Kept live ends q
+pub has-in : (live : Live) (ends : Ends) (q : Queues) (a : End) → MapsAgree live ends q
     → has_items (items_at q a) ≡ true → WaitsIn (all_seen q live.entries) a
 has-in live ends q a k has = by (items_at q a) refl
   where
@@ -253,7 +253,7 @@ has-in live ends q a k has = by (items_at q a) refl
         (λ n. has-on q n o.connection a o.wired o.own has)
 
 -- the first of the queues where something waits
-pub earliest-is : (live : Live) (ends : Ends) (q : Queues) (r : Option End) → Kept live ends q
+pub earliest-is : (live : Live) (ends : Ends) (q : Queues) (r : Option End) → MapsAgree live ends q
     → FindsFirst (items_at q) r → r ≡ earliest_in (all_seen q live.entries)
 earliest-is live ends q r k h =
     by r (earliest_in (all_seen q live.entries)) h (best-in (all_seen q live.entries))

@@ -10,7 +10,8 @@ use Rattle.gb_bus.proofs.SlotLaws.{here-ends, here-forgets, here-gives_up, tell_
 use Rattle.gb_bus.proofs.Standing.{AreShown}
 use Rattle.gb_bus.specs.Counting.{Tells, one_ended}
 use Rattle.gb_bus.specs.Listing.{count}
-use Rattle.gb_bus.specs.Slots.{Kept, MovesAt, ended_at, ends_so, forgets, gives_up_so, is_open_slot}
+use Rattle.gb_bus.specs.Slots.{SlotsKept, MovesAt, ended_at, ends_so, forgets, gives_up_so}
+use Rattle.gb_bus.specs.Slots.{is_open_slot}
 use Rattle.gb_bus.specs.Slots.{open_place, slot_at}
 use Rattle.gb_bus.specs.Stands.{KeepSides, Shows, kept, kept_of, slot_of}
 use Rattle.gb_bus.specs.Taking.{open_kind}
@@ -135,7 +136,8 @@ open-slot names b n unended =
     ∙ ap (λ o. is_open_slot (kept_of n true (count n names) None o)) w.1
 
 -- the counts once an open request ended
-counts-are : (names : List ℕ) (x : Kept) (y : Kept) (b : machine.Bus) (n : ℕ) (how : Outcome)
+counts-are : (names : List ℕ) (x : SlotsKept) (y : SlotsKept) (b : machine.Bus) (n : ℕ)
+    (how : Outcome)
     → is_open n b ≡ true → slot_at x n ≡ slot_of names n b → y.tally ≡ ended_at n how x
     → y.tally ≡ one_ended how x.tally
 counts-are names x y b n how unended is counts =
@@ -145,7 +147,7 @@ counts-are names x y b n how unended is counts =
 
 -- a request ended, and with it what its side keeps
 pub shows-ended : (names : List ℕ) (x : Bus) (b : machine.Bus) (n : ℕ) (how : Outcome)
-    (xs : List Connection) (y : Kept) → OutcomesFit b → is_open n b ≡ true
+    (xs : List Connection) (y : SlotsKept) → OutcomesFit b → is_open n b ≡ true
     → AreShown b.requests xs b.connections → KeepSides xs (ended n how b)
     → MovesAt n (ends_so how) (ended_at n how x.slots) x.slots y → Shows names x b
     → Shows names (record x { connections = xs; slots = y }) (ended n how b)
@@ -172,7 +174,7 @@ shows-ended names x b n how xs y fits unended shown sides moves s = record {
 
 -- or was given up
 pub shows-gave_up : (names : List ℕ) (x : Bus) (b : machine.Bus) (n : ℕ) (how : Outcome)
-    (xs : List Connection) (y : Kept) → is_open n b ≡ true
+    (xs : List Connection) (y : SlotsKept) → is_open n b ≡ true
     → AreShown b.requests xs b.connections → KeepSides xs (gave_up n how b)
     → MovesAt n (gives_up_so how) (ended_at n how x.slots) x.slots y → Shows names x b
     → Shows names (record x { connections = xs; slots = y }) (gave_up n how b)
@@ -199,7 +201,7 @@ shows-gave_up names x b n how xs y unended shown sides moves s = record {
 
 -- or was forgotten, having ended
 pub shows-forgotten : (names : List ℕ) (x : Bus) (b : machine.Bus) (n : ℕ) (xs : List Connection)
-    (y : Kept) → is_open n b ≡ false
+    (y : SlotsKept) → is_open n b ≡ false
     → AreShown b.requests xs b.connections → KeepSides xs (forgotten n b)
     → MovesAt n forgets x.slots.tally x.slots y → Shows names x b
     → Shows names (record x { connections = xs; slots = y }) (forgotten n b)

@@ -9,7 +9,7 @@ use Rattle.gb_bus.proofs.Listed.{above, those-are}
 use Rattle.gb_bus.specs.Cancelling.{Expires, ExpiresAs, GivesUpAs}
 use Rattle.gb_bus.specs.Listing.{AreThose, FindsLeast, IsLeast, Rises, count}
 use Rattle.gb_bus.specs.Slots as slots
-use Rattle.gb_bus.specs.Slots.{Kept, slot_at}
+use Rattle.gb_bus.specs.Slots.{SlotsKept, slot_at}
 use Rattle.gb_bus.specs.Stands.{Around, Stands, kept, kept_of, slot_of}
 use Rattle.gb_bus.specs.declared.answers.AlreadyEnded.{AlreadyEnded}
 use Rattle.gb_bus.specs.declared.bus.Bus.{Bus}
@@ -67,7 +67,7 @@ in-is-due names b now n i =
     ∙ ap (λ t. t && true) q.2
 
 -- The numbers of the slots that are due are those of the machine's requests.
-pub due-are : (x : Kept) (names : List ℕ) (b : machine.Bus) (now : ℕ) (ns : List ℕ)
+pub due-are : (x : SlotsKept) (names : List ℕ) (b : machine.Bus) (now : ℕ) (ns : List ℕ)
     → ((n : ℕ) → slot_at x n ≡ slot_of names n b)
     → AreThose (λ n. slots.is_due now (slot_at x n)) ns → ns ≡ open_requests (is_due now) b
 due-are x names b now ns tell h =
@@ -79,7 +79,7 @@ due-are x names b now ns tell h =
 -- ---- the first of them
 
 -- the least that is due is the first of those
-first-is : (x : Kept) (names : List ℕ) (b : machine.Bus) (now n : ℕ)
+first-is : (x : SlotsKept) (names : List ℕ) (b : machine.Bus) (now n : ℕ)
     → ((m : ℕ) → slot_at x m ≡ slot_of names m b)
     → IsLeast (λ m. slots.is_due now (slot_at x m)) n
     → first (open_requests (is_due now) b) ≡ Some n

@@ -5,7 +5,7 @@ use Rattle.std.specs.List.{find}
 use Rattle.gb_base.specs.declared.end.Side.{Side}
 use Rattle.gb_base.specs.declared.end.Side.TheVariants as side
 use Rattle.gb_bus.proofs.Changing.{twice}
-use Rattle.gb_bus.proofs.Moves.{put-shown, put-number, put-ops, put-seen, soiled-ops}
+use Rattle.gb_bus.proofs.ConnectionChanges.{put-shown, put-number, put-ops, put-seen, soiled-ops}
 use Rattle.gb_bus.proofs.Sides.{sides-changed}
 use Rattle.gb_bus.proofs.Standing.{AreShown, ShownAs, changed}
 use Rattle.gb_bus.proofs.Wires.{shows-connections}

@@ -1,7 +1,7 @@
 -- How the index of live connections is kept where one changes, or a queue.
-use Rattle.std.proofs.Common.{◌≡◌, ◌≢◌, ℕ, true, false, cond, ◌⊎◌, inl, inr, ⊎_elim, Option, Some}
-use Rattle.std.proofs.Common.{List, [], ◌∷◌, ◌++◌, refl, sym, ap, ◌∙◌, subst, IsSome, eqb, ◌&&◌}
-use Rattle.std.proofs.lemmas.Bool.{cases_eq, eq-eqb, true≢false}
+use Rattle.std.proofs.Common.{◌≡◌, ◌≢◌, ℕ, true, cond, ◌⊎◌, inl, inr, ⊎_elim, Option, Some}
+use Rattle.std.proofs.Common.{List, [], ◌∷◌, ◌++◌, refl, sym, ap, ◌∙◌, subst, IsSome}
+use Rattle.std.proofs.lemmas.Bool.{cases_eq, true≢false}
 use Rattle.std.proofs.lemmas.Map.{keys-set_value}
 use Rattle.std.specs.List.{IsDistinct}
 use Rattle.std.specs.Map.{keys_of, lookup, set_value}
@@ -12,13 +12,13 @@ use Rattle.gb_base.specs.declared.end.End.TheVariants as end
 use Rattle.gb_base.specs.declared.end.Side.{Side}
 use Rattle.gb_base.specs.declared.end.Side.TheVariants as side
 use Rattle.gb_bus.proofs.Entries.{same-some, set-here, set-others}
-use Rattle.gb_bus.specs.Index.{Ends, HasEnd, HasQueues, IsEndOf, IsIndexed, IsOwned, Kept, Live}
-use Rattle.gb_bus.specs.Index.{number_at}
+use Rattle.gb_bus.specs.Ends.{is_far}
+use Rattle.gb_bus.specs.Index.{Ends, HasEnd, HasQueues, IsEndOf, IsIndexed, IsOwned, Live}
+use Rattle.gb_bus.specs.Index.{MapsAgree, number_at}
 use Rattle.gb_bus.specs.Parts.{end_at}
 use Rattle.gb_bus.specs.Seen.{alone, items_of, seen}
 use Rattle.gb_bus.specs.declared.connection.Connection as code
 use Rattle.gb_bus.specs.declared.queue.Item.{Item}
-use Rattle.gb_machine.specs.Bus.{same_end}
 use Rattle.gb_switch.proofs.Lines.{is-end}
 use Rattle.gb_switch.specs.Queues.{Appends, Creates, Puts, Takes, items_at}
 
@@ -60,21 +60,9 @@ ends-apart live ends k n z x a e i there found ne of_z of_x same =
     ∙ ap (number_at ends) same
     ∙ number-of-end ends n x e (i n x found) of_x))
 
-end-own : (e : End) → same_end e e ≡ true
-end-own end.Svc = refl
-end-own (end.Ap a) = own a
-  where
-    own : (n : ℕ) → eqb n n ≡ true
-    own n = eq-eqb n n refl
-end-own (end.Module i c) =
-    ap (λ b. b && eqb c c)
-    (eq-eqb i i refl)
-    ∙ eq-eqb c c refl
-
 -- the two ends of one differ
-pub two-ends : (a b : End) → same_end a b ≡ false → a ≢ b
-two-ends a b t e =
-    true≢false (sym (end-own a) ∙ ap (λ x. same_end a x) e ∙ t)
+pub two-ends : (a : ℕ) (peer : End) → is_far peer ≡ true → end.Ap a ≢ peer
+two-ends a peer far e = true≢false (sym far ∙ sym (ap is_far e))
 
 -- ---- what is seen where queues change
 
@@ -142,8 +130,7 @@ indexed-set live live' ends n x y found set ap_is peer_is i k z there =
     own = record {
       near = ap (λ a. number_at ends (end.Ap a)) ap_is ∙ (i n x found).near;
       far = ap (number_at ends) peer_is ∙ (i n x found).far;
-      two = ap (λ a. same_end (end.Ap a) y.peer) ap_is ∙ ap (same_end (end.Ap x.ap)) peer_is
-          ∙ (i n x found).two;
+      beyond = ap is_far peer_is ∙ (i n x found).beyond;
     }
 
     by : ((k ≡ n) × (z ≡ y)) ⊎ ((k ≢ n) × (get nat_eq live k ≡ Some z)) → IsIndexed ends k z
@@ -236,7 +223,7 @@ queued-set live live' q n x y found set ap_is peer_is own others k z there w =
 pub kept-set : (live live' : Live) (ends : Ends) (q : Queues) (n : ℕ) (x y : code.Connection)
     → get nat_eq live n ≡ Some x → live'.entries ≡ set_value (nat_eq n) live.entries y
     → y.ap ≡ x.ap → y.peer ≡ x.peer → y.wired ≡ x.wired
-    → Kept live ends q → Kept live' ends q
+    → MapsAgree live ends q → MapsAgree live' ends q
 kept-set live live' ends q n x y found set ap_is peer_is wired k = record {
   unique = unique-set live live' n y set k.unique;
   indexed = indexed-set live live' ends n x y found set ap_is peer_is k.indexed;
@@ -249,7 +236,7 @@ kept-set live live' ends q n x y found set ap_is peer_is wired k = record {
 
 -- none changes
 pub kept-same : (live live' : Live) (ends : Ends) (q : Queues) → live'.entries ≡ live.entries
-    → Kept live ends q → Kept live' ends q
+    → MapsAgree live ends q → MapsAgree live' ends q
 kept-same live live' ends q same k = record {
   unique = subst (λ es. IsDistinct nat_eq (keys_of es)) (sym same) k.unique;
   indexed = λ n x there. k.indexed n x (ap (lookup (nat_eq n)) (sym same) ∙ there);
@@ -285,7 +272,7 @@ stay-queued q r x stay h =
 -- where each end with a queue had one
 pub kept-queues : (live : Live) (ends : Ends) (q r : Queues)
     → ((a : End) (items : List Item) → items_at r a ≡ Some items → IsOwned live a)
-    → Stay q r → Kept live ends q → Kept live ends r
+    → Stay q r → MapsAgree live ends q → MapsAgree live ends r
 kept-queues live ends q r owned stay k = record {
   unique = k.unique;
   indexed = k.indexed;
@@ -323,21 +310,21 @@ owned-put live q r at before value owned was puts a items there = by (is-end a a
     by (inr ne) = owned a items (sym (puts.others a ne) ∙ there)
 
 pub kept-appends : (live : Live) (ends : Ends) (q r : Queues) (at : End) (item : Item)
-    → Appends (items_at q) (items_at r) at item → Kept live ends q → Kept live ends r
+    → Appends (items_at q) (items_at r) at item → MapsAgree live ends q → MapsAgree live ends r
 kept-appends live ends q r at item h k =
     kept-queues live ends q r
     (owned-put live q r at h.before (Some (h.before ++ item ∷ [])) k.owned h.was h.puts)
     (stay-put q r at (h.before ++ item ∷ []) h.puts) k
 
 pub kept-takes : (live : Live) (ends : Ends) (q r : Queues) (at : End) (item : Item)
-    → Takes (items_at q) (items_at r) at item → Kept live ends q → Kept live ends r
+    → Takes (items_at q) (items_at r) at item → MapsAgree live ends q → MapsAgree live ends r
 kept-takes live ends q r at item h k =
     kept-queues live ends q r
     (owned-put live q r at (item ∷ h.behind) (Some h.behind) k.owned h.was h.puts)
     (stay-put q r at h.behind h.puts) k
 
 pub kept-stays : (live : Live) (ends : Ends) (q r : Queues)
-    → ((a : End) → items_at r a ≡ items_at q a) → Kept live ends q → Kept live ends r
+    → ((a : End) → items_at r a ≡ items_at q a) → MapsAgree live ends q → MapsAgree live ends r
 kept-stays live ends q r same k =
     kept-queues live ends q r (λ a items there. k.owned a items (sym (same a) ∙ there))
     (λ a h. subst IsSome (sym (same a)) h) k

@@ -10,10 +10,10 @@ use Rattle.gb_base.specs.declared.end.End.TheVariants as end
 use Rattle.gb_bus.proofs.Entries.{other-number, same-number, same-some, some-none}
 use Rattle.gb_bus.proofs.Keeping.{Queues, ends-apart}
 use Rattle.gb_bus.proofs.KeepingWires.{owner-elsewhere, queued-elsewhere}
+use Rattle.gb_bus.specs.Ends.{is_far}
 use Rattle.gb_bus.specs.Index.{Ends, GetsNumber, HasEnd, HasQueues, IsEndOf, IsIndexed}
-use Rattle.gb_bus.specs.Index.{KeepsNumbers, Kept, Live, LosesNumber, number_at}
+use Rattle.gb_bus.specs.Index.{KeepsNumbers, MapsAgree, Live, LosesNumber, number_at}
 use Rattle.gb_bus.specs.declared.connection.Connection as code
-use Rattle.gb_machine.specs.Bus.{same_end}
 use Rattle.gb_switch.proofs.Lines.{is-end}
 use Rattle.gb_switch.proofs.Places.{cmp-other, cmp-own}
 use Rattle.gb_switch.specs.Places.{end_cmp}
@@ -50,8 +50,8 @@ index-here m n p w u = u p ∙ ap (λ b. cond b w (number_at m p)) (cmp-own p)
 
 pub kept-removed : (live live' : Live) (e f : Ends) (q r : Queues) (n : ℕ) (x : code.Connection)
     → get nat_eq live n ≡ Some x → Changed live live' n None → IsUnique nat_eq live'
-    → LosesNumber e f (end.Ap x.ap) x.peer → Destroys q r (end.Ap x.ap) x.peer → Kept live e q
-    → Kept live' f r
+    → LosesNumber e f (end.Ap x.ap) x.peer → Destroys q r (end.Ap x.ap) x.peer → MapsAgree live e q
+    → MapsAgree live' f r
 kept-removed live live' e f q r n x found gone s loses lost k = record {
   unique = s;
   indexed = λ j z there.
@@ -61,7 +61,7 @@ kept-removed live live' e f q r n x found gone s loses lost k = record {
       record {
         near = still j z ne was (end.Ap z.ap) (inl refl) ∙ i.near;
         far = still j z ne was z.peer (inr refl) ∙ i.far;
-        two = i.two;
+        beyond = i.beyond;
       };
   numbered = λ a j has. has-still a j has (is-end a (end.Ap x.ap)) (is-end a x.peer);
   owned = λ a items there.
@@ -118,8 +118,8 @@ kept-removed live live' e f q r n x found gone s loses lost k = record {
 -- ---- ends get a number, or lose it
 
 -- the numbers that ends have stay, and no other end has one
-pub kept-numbers : (live : Live) (e f : Ends) (q : Queues) → KeepsNumbers e f → Kept live e q
-    → Kept live f q
+pub kept-numbers : (live : Live) (e f : Ends) (q : Queues) → KeepsNumbers e f → MapsAgree live e q
+    → MapsAgree live f q
 kept-numbers live e f q keeps k = record {
   unique = k.unique;
   indexed = λ j x there.
@@ -127,7 +127,7 @@ kept-numbers live e f q keeps k = record {
       record {
         near = keeps (end.Ap x.ap) ∙ i.near;
         far = keeps x.peer ∙ i.far;
-        two = i.two;
+        beyond = i.beyond;
       };
   numbered = λ a j has. k.numbered a j (sym (keeps a) ∙ has);
   owned = k.owned;
@@ -160,6 +160,30 @@ loses m n o near far p r is-p is-r u t = record {
         ∙ ap (λ x. cond (eq_by_cmp end_cmp r p) None x) (index-here m n p None u)
         ∙ by (eq_by_cmp end_cmp r p)
 
+-- two ends that have no number get one
+pub gets : (m n o : Ends) (near far p r : End) (v : ℕ) → p ≡ near → r ≡ far
+    → number_at m near ≡ None → number_at m far ≡ None
+    → Updated m n p (Some v) → Updated n o r (Some v) → GetsNumber m o near far v
+gets m n o near far p r v is-p is-r free-near free-far u t = record {
+  free_near = free-near;
+  free_far = free-far;
+  at_near = ap (number_at o) (sym is-p) ∙ first-got;
+  at_far = ap (number_at o) (sym is-r) ∙ index-here n o r (Some v) t;
+  others = λ at ne_near ne_far.
+      index-others n o r at (Some v) t (λ e. ne_far (e ∙ is-r))
+      ∙ index-others m n p at (Some v) u (λ e. ne_near (e ∙ is-p));
+}
+  where
+    by : (b : Bool) → cond b (Some v) (Some v) ≡ Some v
+    by true = refl
+    by false = refl
+
+    first-got : number_at o p ≡ Some v
+    first-got =
+        t p
+        ∙ ap (λ x. cond (eq_by_cmp end_cmp r p) (Some v) x) (index-here m n p (Some v) u)
+        ∙ by (eq_by_cmp end_cmp r p)
+
 -- what ends got and lost again is as it was
 pub gets-loses : (m n o : Ends) (near far : End) (v : ℕ) → GetsNumber m n near far v
     → LosesNumber n o near far → KeepsNumbers m o
@@ -175,9 +199,9 @@ gets-loses m n o near far v got lost at = by (is-end at near) (is-end at far)
 -- a connection is there whose ends have its number
 pub kept-added : (live live' : Live) (e f : Ends) (q : Queues) (n : ℕ) (x : code.Connection)
     → get nat_eq live n ≡ None → Changed live live' n (Some x) → IsUnique nat_eq live'
-    → GetsNumber e f (end.Ap x.ap) x.peer n → same_end (end.Ap x.ap) x.peer ≡ false
-    → x.wired ≡ false → Kept live e q → Kept live' f q
-kept-added live live' e f q n x free more s got two loose k = record {
+    → GetsNumber e f (end.Ap x.ap) x.peer n → is_far x.peer ≡ true
+    → x.wired ≡ false → MapsAgree live e q → MapsAgree live' f q
+kept-added live live' e f q n x free more s got beyond loose k = record {
   unique = s;
   indexed = λ j z there. by j z there (cases_eq j n);
   numbered = λ a j has. has-now a j has (is-end a (end.Ap x.ap)) (is-end a x.peer);
@@ -226,13 +250,13 @@ kept-added live live' e f q n x free more s got two loose k = record {
     by j z there (inl same) =
         subst (λ c. IsIndexed f j c) (is-new j z there same)
         (subst (λ m. IsIndexed f m x) (sym same)
-        (record { near = got.at_near; far = got.at_far; two = two }))
+        (record { near = got.at_near; far = got.at_far; beyond = beyond }))
     by j z there (inr ne) =
         let i = k.indexed j z (sym (changed-others live live' n j (Some x) more ne) ∙ there) in
         record {
           near = keeps j (end.Ap z.ap) i.near;
           far = keeps j z.peer i.far;
-          two = i.two;
+          beyond = i.beyond;
         }
 
     own-now : (a : End) (j : ℕ) → Some n ≡ Some j → IsEndOf a x → HasEnd live' j a

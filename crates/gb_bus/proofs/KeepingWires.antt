@@ -11,7 +11,7 @@ use Rattle.gb_bus.proofs.Entries.{same-some, set-here, set-others, some-none}
 use Rattle.gb_bus.proofs.Keeping.{AreOwned, Queues, end-of-set, ends-apart, indexed-set}
 use Rattle.gb_bus.proofs.Keeping.{numbered-set, owned-set, queued-set, stay-created, stay-queued}
 use Rattle.gb_bus.proofs.Keeping.{unique-set}
-use Rattle.gb_bus.specs.Index.{Ends, HasQueues, IsEndOf, IsOwned, Kept, Live}
+use Rattle.gb_bus.specs.Index.{Ends, HasQueues, IsEndOf, IsOwned, MapsAgree, Live}
 use Rattle.gb_bus.specs.declared.connection.Connection as code
 use Rattle.gb_bus.specs.declared.queue.Item.{Item}
 use Rattle.gb_switch.proofs.Lines.{is-end}
@@ -22,7 +22,7 @@ use Rattle.gb_switch.specs.Queues.{Creates, Destroys, items_at}
 pub kept-wired : (live live' : Live) (ends : Ends) (q r : Queues) (n : ℕ) (x y : code.Connection)
     → get nat_eq live n ≡ Some x → live'.entries ≡ set_value (nat_eq n) live.entries y
     → y.ap ≡ x.ap → y.peer ≡ x.peer → y.wired ≡ true
-    → Creates q r (end.Ap x.ap) x.peer → Kept live ends q → Kept live' ends r
+    → Creates q r (end.Ap x.ap) x.peer → MapsAgree live ends q → MapsAgree live' ends r
 kept-wired live live' ends q r n x y found set ap_is peer_is wired made k = record {
   unique = unique-set live live' n y set k.unique;
   indexed = indexed-set live live' ends n x y found set ap_is peer_is k.indexed;
@@ -88,7 +88,7 @@ owner-elsewhere live q r n x a items found owned gone there =
 
 -- the queues of others are there still
 pub queued-elsewhere : (live : Live) (ends : Ends) (q r : Queues) (n j : ℕ) (x z : code.Connection)
-    → Kept live ends q → get nat_eq live n ≡ Some x → Destroys q r (end.Ap x.ap) x.peer
+    → MapsAgree live ends q → get nat_eq live n ≡ Some x → Destroys q r (end.Ap x.ap) x.peer
     → j ≢ n → get nat_eq live j ≡ Some z → z.wired ≡ true → HasQueues r z
 queued-elsewhere live ends q r n j x z k found gone ne there w =
     let h = k.queued j z there w in
@@ -106,7 +106,7 @@ pub kept-cleared : (live live' : Live) (ends : Ends) (q r : Queues) (n : ℕ)
     (x y : code.Connection)
     → get nat_eq live n ≡ Some x → live'.entries ≡ set_value (nat_eq n) live.entries y
     → y.ap ≡ x.ap → y.peer ≡ x.peer → y.wired ≡ false
-    → Destroys q r (end.Ap x.ap) x.peer → Kept live ends q → Kept live' ends r
+    → Destroys q r (end.Ap x.ap) x.peer → MapsAgree live ends q → MapsAgree live' ends r
 kept-cleared live live' ends q r n x y found set ap_is peer_is loose gone k = record {
   unique = unique-set live live' n y set k.unique;
   indexed = indexed-set live live' ends n x y found set ap_is peer_is k.indexed;

@@ -8,7 +8,7 @@ use Rattle.gb_bus.specs.Counting.{Tells}
 use Rattle.gb_bus.specs.Listing.{count}
 use Rattle.gb_bus.specs.Naming.{KeepsAs, asked_for, is_asked_for, with_name, without_name}
 use Rattle.gb_bus.specs.Naming.{without_one}
-use Rattle.gb_bus.specs.Slots.{Kept, MovesAt, gets_name, loses_name, most_names}
+use Rattle.gb_bus.specs.Slots.{SlotsKept, MovesAt, gets_name, loses_name, most_names}
 use Rattle.gb_bus.specs.Stands.{AreMade, Around, Stands, around_of, kept, kept_of, slot_of}
 use Rattle.gb_bus.specs.declared.bus.Bus.{Bus}
 use Rattle.gb_bus.specs.declared.slots.Slot.{Slot}
@@ -70,7 +70,8 @@ fewer-made n (m ∷ ns) b made = by (eqb m n) (fewer-made n ns b made.1)
 -- ---- a name more
 
 -- the slots where a request that is asked for has one more name
-named-more : (around : Around) (x : Bus) (y : Kept) (b : machine.Bus) (n : ℕ) → Stands around x b
+named-more : (around : Around) (x : Bus) (y : SlotsKept) (b : machine.Bus) (n : ℕ)
+    → Stands around x b
     → length around.names < most_names → MovesAt n gets_name x.slots.tally x.slots y
     → is_some (asked_for around.names n b) ≡ true
     → Stands (with_name n around) (record x { slots = y }) b
@@ -124,7 +125,7 @@ no-slot names b n h = by (request_of n b) (λ i. request_of n b)
         (sym (ap (λ o. is_some (cond (is_asked_for names n b) o None)) e) ∙ h)
 
 -- nothing changes where it isn't
-named-none : (around : Around) (x : Bus) (y : Kept) (b : machine.Bus) (n : ℕ)
+named-none : (around : Around) (x : Bus) (y : SlotsKept) (b : machine.Bus) (n : ℕ)
     → Stands around x b → MovesAt n gets_name x.slots.tally x.slots y
     → is_some (asked_for around.names n b) ≡ false → Stands around (record x { slots = y }) b
 named-none around x y b n s moves none = record {
@@ -157,7 +158,8 @@ named-none around x y b n s moves none = record {
     same None e = refl
     same (Some slot) e = absurd cc
 
-pub keeps : (around : Around) (x : Bus) (y : Kept) (b : machine.Bus) (n : ℕ) → Stands around x b
+pub keeps : (around : Around) (x : Bus) (y : SlotsKept) (b : machine.Bus) (n : ℕ)
+    → Stands around x b
     → MovesAt n gets_name x.slots.tally x.slots y → KeepsAs around (record x { slots = y }) n b
 keeps around x y b n s moves room =
     by (is_some (asked_for around.names n b)) (λ i. is_some (asked_for around.names n b))
@@ -169,7 +171,8 @@ keeps around x y b n s moves room =
 
 -- ---- a name less
 
-pub looses : (around : Around) (x : Bus) (y : Kept) (b : machine.Bus) (n : ℕ) → Stands around x b
+pub looses : (around : Around) (x : Bus) (y : SlotsKept) (b : machine.Bus) (n : ℕ)
+    → Stands around x b
     → MovesAt n loses_name x.slots.tally x.slots y
     → Stands (without_name n around) (record x { slots = y }) b
 looses around x y b n s moves = record {

@@ -3,7 +3,7 @@ use Rattle.std.proofs.Common.{◌≡◌, ℕ, Bool, true, false, Option, Some, N
 use Rattle.std.proofs.Common.{refl, sym, ap, ◌∙◌, subst}
 use Rattle.gb_base.specs.declared.end.Side.{Side}
 use Rattle.gb_bus.specs.Connection.{Connection}
-use Rattle.gb_bus.specs.Moving.{Answers, AnswersAs, AnswersTo, LabelledAs, LabelsTo, Opens}
+use Rattle.gb_bus.specs.Moving.{Answers, AnswersAs, AnswersTo, LabelledAs, LabelsTo, EndsOpen}
 use Rattle.gb_bus.specs.Moving.{ChangesRequest, IsMemory, RepliesTo, with_connections}
 use Rattle.gb_bus.specs.Sides.{MatchesIn, asked_of}
 use Rattle.gb_bus.specs.Slots.{MovesAt, forgets, slot_at}
@@ -26,8 +26,8 @@ after-match old new xs e = sym (ap (λ (x : Bus). x.connections) e)
 -- what is answered depends on the requests alone
 by-kind : (old new : Bus) (xs : List Connection) (label n code : ℕ) (payload : List ℕ)
     (kind : Option ℕ) (a : Arrival)
-    → Opens (with_connections xs old) new label n code payload kind a
-    → Opens old new label n code payload kind a
+    → EndsOpen (with_connections xs old) new label n code payload kind a
+    → EndsOpen old new label n code payload kind a
 by-kind old new xs label n code payload (Some kind) a h =
     (h.0, record { rest = h.1.rest; moves = h.1.moves })
 by-kind old new xs label n code payload None a h = h

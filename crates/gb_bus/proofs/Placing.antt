@@ -13,7 +13,7 @@ use Rattle.gb_base.specs.declared.end.Side.TheVariants as side
 use Rattle.gb_bus.proofs.Entries.{EachEntry, both, each-back, each-entry, each-front, find-none}
 use Rattle.gb_bus.proofs.Entries.{find-split, nowhere, same-some, some-none, split}
 use Rattle.gb_bus.proofs.Keeping.{Queues, number-of-end}
-use Rattle.gb_bus.specs.Index.{Ends, HasSide, IsEndOf, IsIndexed, Kept, Live, number_at}
+use Rattle.gb_bus.specs.Index.{Ends, HasSide, IsEndOf, IsIndexed, MapsAgree, Live, number_at}
 use Rattle.gb_bus.specs.Parts.{end_at, joins, place_at, side_at}
 use Rattle.gb_bus.specs.Seen.{all_seen, alone, seen}
 use Rattle.gb_bus.specs.declared.connection.Connection as code
@@ -96,7 +96,7 @@ not-its ends k x at o is ne i own = ne (sym is ∙ number-of-end ends k x at i o
 -- ---- the place of an end
 
 -- the end has no number
-pub places-nowhere : (live : Live) (ends : Ends) (q : Queues) (at : End) → Kept live ends q
+pub places-nowhere : (live : Live) (ends : Ends) (q : Queues) (at : End) → MapsAgree live ends q
     → number_at ends at ≡ None → place_at at (all_seen q live.entries) ≡ None
 places-nowhere live ends q at k none =
     place-none q at live.entries
@@ -105,7 +105,7 @@ places-nowhere live ends q at k none =
     (not-its ends n x at None none (λ e. some-none n (sym e)) (k.indexed n x there))))
 
 -- others than the one with its number haven't it
-others-no-side : (live : Live) (ends : Ends) (q : Queues) (at : End) (n : ℕ) → Kept live ends q
+others-no-side : (live : Live) (ends : Ends) (q : Queues) (at : End) (n : ℕ) → MapsAgree live ends q
     → number_at ends at ≡ Some n
     → EachEntry (λ j z. j ≢ n → side_at at (seen q j z) ≡ None) live.entries
 others-no-side live ends q at n k is =
@@ -114,7 +114,8 @@ others-no-side live ends q at n k is =
     (not-its ends j z at (Some n) is (λ e. ne (sym (same-some n j e))) (k.indexed j z there)))
 
 -- the end has a number that no live connection has
-pub places-dead : (live : Live) (ends : Ends) (q : Queues) (at : End) (n : ℕ) → Kept live ends q
+pub places-dead : (live : Live) (ends : Ends) (q : Queues) (at : End) (n : ℕ)
+    → MapsAgree live ends q
     → number_at ends at ≡ Some n → get nat_eq live n ≡ None
     → place_at at (all_seen q live.entries) ≡ None
 places-dead live ends q at n k is dead =
@@ -124,7 +125,7 @@ places-dead live ends q at n k is dead =
 
 -- it has that of a live one
 pub places : (live : Live) (ends : Ends) (q : Queues) (at : End) (n : ℕ) (x : code.Connection)
-    → Kept live ends q → number_at ends at ≡ Some n → get nat_eq live n ≡ Some x
+    → MapsAgree live ends q → number_at ends at ≡ Some n → get nat_eq live n ≡ Some x
     → place_at at (all_seen q live.entries)
     ≡ option_map (λ s. (n, s)) (side_at at (alone 0 x))
 places live ends q at n x k is there =
@@ -162,7 +163,7 @@ own-end at x side.Far e = inr e
 
 -- a connection was found that has a side for the end
 pub places-counted : (live : Live) (ends : Ends) (q : Queues) (at : End) (k : ℕ) (s : Side)
-    → Kept live ends q → HasSide live k at s
+    → MapsAgree live ends q → HasSide live k at s
     → Some (k, s) ≡ place_at at (all_seen q live.entries)
 places-counted live ends q at k s kept h =
     let x = h.connection in
@@ -178,7 +179,7 @@ pub record IsAtSide (live : Live) (at : End) (k : ℕ) (s : Side) : Type 0 where
   pub own : at ≡ end_at s (alone 0 connection)
 
 pub placed : (live : Live) (ends : Ends) (q : Queues) (at : End) (k : ℕ) (s : Side)
-    → Kept live ends q → place_at at (all_seen q live.entries) ≡ Some (k, s)
+    → MapsAgree live ends q → place_at at (all_seen q live.entries) ≡ Some (k, s)
     → IsAtSide live at k s
 placed live ends q at k s kept e = by (number_at ends at) refl
   where
@@ -218,7 +219,7 @@ no-join q k x a peer never =
     (ne_eqb x.ap a (λ e. never (inl (ap end.Ap (sym e)))))
 
 pub joins-nowhere : (live : Live) (ends : Ends) (q : Queues) (a : ℕ) (peer : End)
-    → Kept live ends q → number_at ends (end.Ap a) ≡ None
+    → MapsAgree live ends q → number_at ends (end.Ap a) ≡ None
     → find (joins a peer) (all_seen q live.entries) ≡ None
 joins-nowhere live ends q a peer k none =
     find-none q (joins a peer) live.entries
@@ -227,7 +228,7 @@ joins-nowhere live ends q a peer k none =
     (not-its ends n x (end.Ap a) None none (λ e. some-none n (sym e)) (k.indexed n x there))))
 
 others-join : (live : Live) (ends : Ends) (q : Queues) (a : ℕ) (peer : End) (n : ℕ)
-    → Kept live ends q → number_at ends (end.Ap a) ≡ Some n
+    → MapsAgree live ends q → number_at ends (end.Ap a) ≡ Some n
     → EachEntry (λ j z. j ≢ n → joins a peer (seen q j z) ≡ false) live.entries
 others-join live ends q a peer n k is =
     each-entry (λ j z. j ≢ n → joins a peer (seen q j z) ≡ false) live.entries k.unique
@@ -236,7 +237,7 @@ others-join live ends q a peer n k is =
     (k.indexed j z there)))
 
 pub joins-dead : (live : Live) (ends : Ends) (q : Queues) (a : ℕ) (peer : End) (n : ℕ)
-    → Kept live ends q → number_at ends (end.Ap a) ≡ Some n
+    → MapsAgree live ends q → number_at ends (end.Ap a) ≡ Some n
     → get nat_eq live n ≡ None → find (joins a peer) (all_seen q live.entries) ≡ None
 joins-dead live ends q a peer n k is dead =
     find-none q (joins a peer) live.entries
@@ -244,7 +245,7 @@ joins-dead live ends q a peer n k is dead =
     (nowhere n live.entries dead) (others-join live ends q a peer n k is))
 
 pub joins-there : (live : Live) (ends : Ends) (q : Queues) (a : ℕ) (peer : End) (n : ℕ)
-    (x : code.Connection) → Kept live ends q
+    (x : code.Connection) → MapsAgree live ends q
     → number_at ends (end.Ap a) ≡ Some n → get nat_eq live n ≡ Some x
     → find (joins a peer) (all_seen q live.entries)
     ≡ cond (joins a peer (seen q n x)) (Some (seen q n x)) None

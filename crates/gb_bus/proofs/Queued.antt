@@ -11,7 +11,7 @@ use Rattle.gb_base.specs.declared.end.Side.TheVariants as side
 use Rattle.gb_bus.proofs.Asking.{made, somewhere}
 use Rattle.gb_bus.proofs.Entries.{same-some}
 use Rattle.gb_bus.proofs.Keeping.{Queues, number-of-end}
-use Rattle.gb_bus.specs.Index.{ChangesBy, Ends, HasQueues, IsEndOf, Kept, Live, end_toward}
+use Rattle.gb_bus.specs.Index.{ChangesBy, Ends, HasQueues, IsEndOf, MapsAgree, Live, end_toward}
 use Rattle.gb_bus.specs.Parts.{end_at}
 use Rattle.gb_bus.specs.Seen.{alone}
 use Rattle.gb_bus.specs.Sides.{AsksOn, HasEndsOf, toward}
@@ -23,7 +23,7 @@ use Rattle.gb_switch.specs.Queues.{items_at}
 
 -- an end of a connection that isn't wired has none
 pub no-queue : (live : Live) (ends : Ends) (q : Queues) (n : ℕ) (x : code.Connection) (a : End)
-    → Kept live ends q → get nat_eq live n ≡ Some x → x.wired ≡ false → IsEndOf a x
+    → MapsAgree live ends q → get nat_eq live n ≡ Some x → x.wired ≡ false → IsEndOf a x
     → items_at q a ≡ None
 no-queue live ends q n x a k found loose own = by (items_at q a) refl
   where
@@ -48,7 +48,8 @@ side-queue q x side.Ap h = h.near
 side-queue q x side.Far h = h.far
 
 -- the end toward which a message goes has one
-pub queue-toward : (live : Live) (ends : Ends) (q : Queues) (k : ℕ) (s : Side) → Kept live ends q
+pub queue-toward : (live : Live) (ends : Ends) (q : Queues) (k : ℕ) (s : Side)
+    → MapsAgree live ends q
     → IfSome (end_toward live k s) (λ a. IsSome (items_at q a))
 queue-toward live ends q k s kept = by (get nat_eq live k) refl
   where
@@ -64,9 +65,9 @@ queue-toward live ends q k s kept = by (get nat_eq live k) refl
 
 -- and that toward which a request goes
 pub queue-asked : (live live' : Live) (ends : Ends) (q : Queues) (k : ℕ) (s : Side)
-    (n deadline : ℕ) (oneway : Bool) (a : ℕ × Option End) (at : End) → Kept live ends q
+    (n deadline : ℕ) (oneway : Bool) (a : ℕ × Option End) (at : End) → MapsAgree live ends q
     → ChangesBy live live' k (λ x y. AsksOn x y s n deadline oneway (Ok a) × HasEndsOf x y)
-    → (get nat_eq live k ≡ None → Ok a ≡ Err fault.NoLabel) → a.1 ≡ Some at
+    → (get nat_eq live k ≡ None → Ok a ≡ Err fault.NoConnection) → a.1 ≡ Some at
     → IsSome (items_at q at)
 queue-asked live live' ends q k s n deadline oneway a at kept there fails is =
     let m = made live live' ends q k s n deadline oneway a kept there fails in

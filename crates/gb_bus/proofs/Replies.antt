@@ -3,9 +3,9 @@ use Rattle.std.proofs.Common.{◌≡◌, ◌≤◌, ℕ, ◌+◌, Bool, true, fa
 use Rattle.std.proofs.Common.{Ok, Err, option_map, List, ◌∷◌, ◌++◌, refl, inr, subst, arith, sym}
 use Rattle.std.proofs.Common.{ap, ◌∙◌}
 use Rattle.gb_base.specs.declared.end.Side.{Side}
-use Rattle.gb_base.specs.declared.fault.RawFault.{RawFault}
+use Rattle.gb_base.specs.declared.reasons.RawFault.{RawFault}
 use Rattle.gb_bus.proofs.Loosening.{fits-first}
-use Rattle.gb_bus.proofs.Moves.{put-last, put-shown, put-number, put-ops, shown-put}
+use Rattle.gb_bus.proofs.ConnectionChanges.{put-last, put-shown, put-number, put-ops, shown-put}
 use Rattle.gb_bus.proofs.Sides.{sides-changed}
 use Rattle.gb_bus.proofs.Wires.{shows-connections}
 use Rattle.gb_bus.specs.Delivering.{MayReply, Names, taken_from}

@@ -12,9 +12,9 @@ use Rattle.gb_bus.proofs.Entries.{remove-split, same-seen, seen-append, split, w
 use Rattle.gb_bus.proofs.Entries.{without-split, EachEntry}
 use Rattle.gb_bus.proofs.Keeping.{Queues, seen-others}
 use Rattle.gb_bus.proofs.KeepingWires.{stays-elsewhere}
-use Rattle.gb_bus.proofs.Seeing.{filled}
+use Rattle.gb_bus.proofs.SeeingChanges.{filled}
 use Rattle.gb_bus.specs.Connection.{Connection}
-use Rattle.gb_bus.specs.Index.{Ends, Kept, Live}
+use Rattle.gb_bus.specs.Index.{Ends, MapsAgree, Live}
 use Rattle.gb_bus.specs.Parts.{new_connection, numbered}
 use Rattle.gb_bus.specs.Seen.{all_seen, alone, seen}
 use Rattle.gb_bus.specs.declared.connection.Connection as code
@@ -24,7 +24,7 @@ use Rattle.gb_switch.specs.Queues.{Destroys}
 -- ---- a connection is removed
 
 pub removes : (live live' : Live) (ends : Ends) (q r : Queues) (xs : List Connection) (k : ℕ)
-    (x : code.Connection) → Kept live ends q → all_seen q live.entries ≡ xs
+    (x : code.Connection) → MapsAgree live ends q → all_seen q live.entries ≡ xs
     → get nat_eq live k ≡ Some x → live'.entries ≡ remove_entry (nat_eq k) live.entries
     → Destroys q r (end.Ap x.ap) x.peer → all_seen r live'.entries ≡ without (numbered k) xs
 removes live live' ends q r xs k x kept view found gone lost =

@@ -12,9 +12,9 @@ use Rattle.gb_base.specs.declared.end.Side.TheVariants as side
 use Rattle.gb_bus.proofs.Entries.{changes, each-entry, same-seen}
 use Rattle.gb_bus.proofs.Keeping.{Queues, kept-appends, kept-stays, kept-takes, not-one}
 use Rattle.gb_bus.proofs.Keeping.{seen-others, seen-same, two-ends}
-use Rattle.gb_bus.proofs.Seeing.{changes-one, finds, nothing-changes}
+use Rattle.gb_bus.proofs.SeeingChanges.{changes-one, finds, nothing-changes}
 use Rattle.gb_bus.specs.Connection.{Connection}
-use Rattle.gb_bus.specs.Index.{AddsAt, Ends, IsIndexed, Kept, Live, end_toward}
+use Rattle.gb_bus.specs.Index.{AddsAt, Ends, IsIndexed, MapsAgree, Live, end_toward}
 use Rattle.gb_bus.specs.Parts.{TakesFrontAs, end_at, front_in, numbered, put, queue_of, with_queue}
 use Rattle.gb_bus.specs.Parts.{without_front}
 use Rattle.gb_bus.specs.Seen.{all_seen, alone, items_of, seen}
@@ -29,7 +29,7 @@ use Rattle.gb_switch.specs.Queues.{Appends, Puts, TakesAs, items_at}
 
 -- an unwired connection has nothing in its queues, and takes nothing
 pub put-unwired : (live : Live) (ends : Ends) (q : Queues) (xs : List Connection) (k : ℕ)
-    (x : code.Connection) (s : Side) (item : Item) → Kept live ends q
+    (x : code.Connection) (s : Side) (item : Item) → MapsAgree live ends q
     → all_seen q live.entries ≡ xs → get nat_eq live k ≡ Some x → x.wired ≡ false
     → xs ≡ at_first (numbered k) (put s item) xs
 put-unwired live ends q xs k x s item kept view found loose =
@@ -56,18 +56,18 @@ seen-put q r ends k x side.Ap items i w p =
     ∙ ap (λ o. record (seen q k x) {
       to_ap = items;
       to_far = cond x.wired (items_of o) [];
-    }) (p.others x.peer (λ e. two-ends (end.Ap x.ap) x.peer i.two (sym e)))
+    }) (p.others x.peer (λ e. two-ends x.ap x.peer i.beyond (sym e)))
 seen-put q r ends k x side.Far items i w p =
     ap (λ b. record (seen r k x) { to_far = cond b (items_of (items_at r x.peer)) [] }) w
     ∙ ap (λ o. record (seen r k x) { to_far = items_of o }) p.here
     ∙ ap (λ o. record (seen q k x) {
       to_far = items;
       to_ap = cond x.wired (items_of o) [];
-    }) (p.others (end.Ap x.ap) (two-ends (end.Ap x.ap) x.peer i.two))
+    }) (p.others (end.Ap x.ap) (two-ends x.ap x.peer i.beyond))
 
 -- what is seen of all, where one end of one has this now
 puts-at : (live : Live) (ends : Ends) (q r : Queues) (k : ℕ) (x : code.Connection) (s : Side)
-    (items : List Item) (f : Connection → Connection) → Kept live ends q
+    (items : List Item) (f : Connection → Connection) → MapsAgree live ends q
     → get nat_eq live k ≡ Some x → x.wired ≡ true
     → Puts (items_at q) (items_at r) (end_at s (alone 0 x)) (Some items)
     → with_queue s items (seen q k x) ≡ f (seen q k x)
@@ -80,7 +80,7 @@ puts-at live ends q r k x s items f kept found w p same =
     (λ a never. p.others a (not-one x a s never)))
 
 pub pushes : (live : Live) (ends : Ends) (q r : Queues) (xs : List Connection) (k : ℕ)
-    (x : code.Connection) (s : Side) (at : End) (item : Item) → Kept live ends q
+    (x : code.Connection) (s : Side) (at : End) (item : Item) → MapsAgree live ends q
     → all_seen q live.entries ≡ xs → get nat_eq live k ≡ Some x → x.wired ≡ true
     → at ≡ end_at s (alone 0 x) → Appends (items_at q) (items_at r) at item
     → all_seen r live.entries ≡ at_first (numbered k) (put s item) xs
@@ -106,7 +106,7 @@ nothing-first (Some []) e = refl
 nothing-first (Some (i ∷ is)) e = absurd (true≢false e)
 
 pub pops : (live : Live) (ends : Ends) (q r : Queues) (xs : List Connection) (k : ℕ)
-    (x : code.Connection) (s : Side) (at : End) (result : Option Item) → Kept live ends q
+    (x : code.Connection) (s : Side) (at : End) (result : Option Item) → MapsAgree live ends q
     → all_seen q live.entries ≡ xs → get nat_eq live k ≡ Some x → x.wired ≡ true
     → at ≡ end_at s (alone 0 x) → TakesAs (items_at q) (items_at r) at result
     → TakesFrontAs xs (all_seen r live.entries) k s result
@@ -130,19 +130,19 @@ pops live ends q r xs k x s at (Some item) kept view found w at_is h =
     )
 
 pub kept-pops : (live : Live) (ends : Ends) (q r : Queues) (at : End) (result : Option Item)
-    → TakesAs (items_at q) (items_at r) at result → Kept live ends q → Kept live ends r
+    → TakesAs (items_at q) (items_at r) at result → MapsAgree live ends q → MapsAgree live ends r
 kept-pops live ends q r at None h kept = kept-stays live ends q r h.1 kept
 kept-pops live ends q r at (Some item) h kept = kept-takes live ends q r at item h kept
 
 -- ---- a message goes to an end, where there is one
 
 pub kept-adds : (live : Live) (ends : Ends) (q r : Queues) (o : Option End) (item : Item)
-    → AddsAt o item q r → Kept live ends q → Kept live ends r
-kept-adds live ends q r None item h kept = subst (Kept live ends) (sym h) kept
+    → AddsAt o item q r → MapsAgree live ends q → MapsAgree live ends r
+kept-adds live ends q r None item h kept = subst (MapsAgree live ends) (sym h) kept
 kept-adds live ends q r (Some at) item h kept = kept-appends live ends q r at item h kept
 
 pub adds-toward : (live : Live) (ends : Ends) (q r : Queues) (xs : List Connection) (k : ℕ)
-    (s : Side) (item : Item) → Kept live ends q → all_seen q live.entries ≡ xs
+    (s : Side) (item : Item) → MapsAgree live ends q → all_seen q live.entries ≡ xs
     → AddsAt (end_toward live k s) item q r
     → all_seen r live.entries ≡ at_first (numbered k) (put s item) xs
 adds-toward live ends q r xs k s item kept view h = by (get nat_eq live k) refl h

@@ -8,9 +8,9 @@ use Rattle.indexmap.specs.IndexMap.{get}
 use Rattle.gb_base.specs.declared.end.Side.{Side}
 use Rattle.gb_base.specs.declared.end.Side.TheVariants as side
 use Rattle.gb_bus.proofs.Keeping.{Queues}
-use Rattle.gb_bus.proofs.Seeing.{changes-one, filled, finds, ops-seen}
+use Rattle.gb_bus.proofs.SeeingChanges.{changes-one, filled, finds, ops-seen}
 use Rattle.gb_bus.specs.Connection.{Connection}
-use Rattle.gb_bus.specs.Index.{ChangesBy, Ends, Kept, Leaves, Live}
+use Rattle.gb_bus.specs.Index.{ChangesBy, Ends, MapsAgree, Leaves, Live}
 use Rattle.gb_bus.specs.Parts.{is_soiled, is_unclean, numbered, ops_of, with_ops}
 use Rattle.gb_bus.specs.Seen.{all_seen, alone, seen}
 use Rattle.gb_bus.specs.Sides.{ChangesSide, GivesUpIn, GivesUpOn, GivesUpWhere}
@@ -36,7 +36,7 @@ filled-ops q k side.Ap ops x = refl
 filled-ops q k side.Far ops x = refl
 
 pub side-changes : (live live' : Live) (ends : Ends) (q : Queues) (k : ℕ) (s : Side)
-    (x y : code.Connection) (R : Operations → Operations → Type 0) → Kept live ends q
+    (x y : code.Connection) (R : Operations → Operations → Type 0) → MapsAgree live ends q
     → get nat_eq live k ≡ Some x
     → live'.entries ≡ set_value (nat_eq k) live.entries y
     → OnSide (alone 0 x) (alone 0 y) s R
@@ -61,7 +61,7 @@ first-same test (x ∷ xs) = by (test x) (first-same test xs)
     by false later = ap (λ ys. x ∷ ys) later
 
 pub put-back : (live live' : Live) (ends : Ends) (q : Queues) (k : ℕ) (x y : code.Connection)
-    → Kept live ends q → get nat_eq live k ≡ Some x
+    → MapsAgree live ends q → get nat_eq live k ≡ Some x
     → live'.entries ≡ set_value (nat_eq k) live.entries y → alone 0 y ≡ alone 0 x
     → all_seen q live'.entries ≡ all_seen q live.entries
 put-back live live' ends q k x y kept found now same =
@@ -73,7 +73,7 @@ same-side side.Ap c = refl
 same-side side.Far c = refl
 
 pub matches : (live live' : Live) (ends : Ends) (q : Queues) (k : ℕ) (s : Side)
-    (number : Option ℕ) (label : ℕ) (r : Matched) → Kept live ends q
+    (number : Option ℕ) (label : ℕ) (r : Matched) → MapsAgree live ends q
     → ChangesBy live live' k (λ x y. MatchesOn x y s number label r)
     → (get nat_eq live k ≡ None → Leaves live live')
     → (get nat_eq live k ≡ None → r ≡ matched.Unknown)
@@ -113,7 +113,7 @@ matches live live' ends q k s number label r kept there none fails =
 
 -- a response goes by its number or by its identifier alone
 pub responds : (live live' : Live) (ends : Ends) (q : Queues) (k : ℕ) (s : Side)
-    (number label : ℕ) (r : Bool × Matched) → Kept live ends q
+    (number label : ℕ) (r : Bool × Matched) → MapsAgree live ends q
     → ChangesBy live live' k (λ x y. RespondsOn x y s number label r)
     → (get nat_eq live k ≡ None → Leaves live live')
     → (get nat_eq live k ≡ None → r ≡ (false, matched.Unknown))
@@ -133,7 +133,7 @@ responds live live' ends q k s number label r kept there none fails = (
         ∙ sym (ap is_soiled (finds live q (all_seen q live.entries) k (Some x) refl e))
 
 pub gives-up : (live live' : Live) (ends : Ends) (q : Queues) (k : ℕ) (s : Side) (n : ℕ)
-    → Kept live ends q → ChangesBy live live' k (λ x y. GivesUpOn x y s n)
+    → MapsAgree live ends q → ChangesBy live live' k (λ x y. GivesUpOn x y s n)
     → (get nat_eq live k ≡ None → Leaves live live')
     → GivesUpIn (all_seen q live.entries) (all_seen q live'.entries) k s n
 gives-up live live' ends q k s n kept there none = by (get nat_eq live k) refl

@@ -8,9 +8,9 @@ use Rattle.gb_base.specs.declared.end.End.TheVariants as end
 use Rattle.gb_bus.proofs.Entries.{changes}
 use Rattle.gb_bus.proofs.Keeping.{Queues, seen-others}
 use Rattle.gb_bus.proofs.KeepingWires.{kept-cleared, kept-wired, stays-elsewhere}
-use Rattle.gb_bus.proofs.Seeing.{changes-one, filled}
+use Rattle.gb_bus.proofs.SeeingChanges.{changes-one, filled}
 use Rattle.gb_bus.specs.Connection.{Connection}
-use Rattle.gb_bus.specs.Index.{ChangesBy, Ends, Kept, Live}
+use Rattle.gb_bus.specs.Index.{ChangesBy, Ends, MapsAgree, Live}
 use Rattle.gb_bus.specs.Parts.{cleared, numbered, with_wire}
 use Rattle.gb_bus.specs.Seen.{all_seen, items_of, seen}
 use Rattle.gb_bus.specs.declared.connection.Connection as code
@@ -19,7 +19,7 @@ use Rattle.gb_switch.specs.Queues.{Creates, Destroys, items_at}
 
 -- a connection that is wired is wired
 pub wired-still : (live : Live) (ends : Ends) (q : Queues) (xs : List Connection) (k : ℕ)
-    (x : code.Connection) → Kept live ends q → all_seen q live.entries ≡ xs
+    (x : code.Connection) → MapsAgree live ends q → all_seen q live.entries ≡ xs
     → get nat_eq live k ≡ Some x → x.wired ≡ true → xs ≡ at_first (numbered k) with_wire xs
 wired-still live ends q xs k x kept view found w =
     subst (λ ys. ys ≡ at_first (numbered k) with_wire ys) view
@@ -28,7 +28,7 @@ wired-still live ends q xs k x kept view found w =
     (ap (λ b. record (seen q k x) { wired = b }) w))
 
 pub wires : (live live' : Live) (ends : Ends) (q r : Queues) (xs : List Connection) (k : ℕ)
-    (x : code.Connection) → Kept live ends q → all_seen q live.entries ≡ xs
+    (x : code.Connection) → MapsAgree live ends q → all_seen q live.entries ≡ xs
     → get nat_eq live k ≡ Some x → x.wired ≡ false → Creates q r (end.Ap x.ap) x.peer
     → ChangesBy live live' k (λ v w. w ≡ with_wire v)
     → all_seen r live'.entries ≡ at_first (numbered k) with_wire xs
@@ -52,16 +52,16 @@ wires live live' ends q r xs k x kept view found loose made there =
     ∙ ap (at_first (numbered k) with_wire) view
 
 pub kept-wires : (live live' : Live) (ends : Ends) (q r : Queues) (k : ℕ)
-    (x : code.Connection) → Kept live ends q → get nat_eq live k ≡ Some x
+    (x : code.Connection) → MapsAgree live ends q → get nat_eq live k ≡ Some x
     → Creates q r (end.Ap x.ap) x.peer → ChangesBy live live' k (λ v w. w ≡ with_wire v)
-    → Kept live' ends r
+    → MapsAgree live' ends r
 kept-wires live live' ends q r k x kept found made there =
     let w = there x found in
     kept-wired live live' ends q r k x w.after found w.now (ap (λ (c : Connection). c.ap) w.did)
     (ap (λ (c : Connection). c.peer) w.did) (ap (λ (c : Connection). c.wired) w.did) made kept
 
 pub unwires : (live live' : Live) (ends : Ends) (q r : Queues) (xs : List Connection) (k : ℕ)
-    (x : code.Connection) → Kept live ends q → all_seen q live.entries ≡ xs
+    (x : code.Connection) → MapsAgree live ends q → all_seen q live.entries ≡ xs
     → get nat_eq live k ≡ Some x → Destroys q r (end.Ap x.ap) x.peer
     → ChangesBy live live' k (λ v w. w ≡ cleared v)
     → all_seen r live'.entries ≡ at_first (numbered k) cleared xs
@@ -74,9 +74,9 @@ unwires live live' ends q r xs k x kept view found gone there =
     ∙ ap (at_first (numbered k) cleared) view
 
 pub kept-unwires : (live live' : Live) (ends : Ends) (q r : Queues) (k : ℕ)
-    (x : code.Connection) → Kept live ends q → get nat_eq live k ≡ Some x
+    (x : code.Connection) → MapsAgree live ends q → get nat_eq live k ≡ Some x
     → Destroys q r (end.Ap x.ap) x.peer → ChangesBy live live' k (λ v w. w ≡ cleared v)
-    → Kept live' ends r
+    → MapsAgree live' ends r
 kept-unwires live live' ends q r k x kept found gone there =
     let w = there x found in
     kept-cleared live live' ends q r k x w.after found w.now (ap (λ (c : Connection). c.ap) w.did)

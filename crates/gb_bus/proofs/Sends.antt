@@ -10,8 +10,8 @@ use Rattle.gb_base.specs.declared.outcome.Outcome.TheVariants as outcome
 use Rattle.gb_bus.proofs.Counted.{tells-made}
 use Rattle.gb_bus.proofs.Endings.{lookup-other, lookup-same, same-test}
 use Rattle.gb_bus.proofs.Finding.{no-twin, twin}
-use Rattle.gb_bus.proofs.Looks.{next-is}
-use Rattle.gb_bus.proofs.Moves.{drawn-shown, put-shown, shown-put, shown-changed}
+use Rattle.gb_bus.proofs.LookedUp.{next-is}
+use Rattle.gb_bus.proofs.ConnectionChanges.{drawn-shown, put-shown, shown-put, shown-changed}
 use Rattle.gb_bus.proofs.Queues.{connections-more}
 use Rattle.gb_bus.proofs.Sides.{sides-sent, sides-sent_oneway}
 use Rattle.gb_bus.proofs.SlotLaws.{Tell, tell_more, tell_sent}
@@ -20,9 +20,10 @@ use Rattle.gb_bus.specs.Counting.{Tells, with_one}
 use Rattle.gb_bus.specs.Ends.{first_outcome}
 use Rattle.gb_bus.specs.Listing.{count}
 use Rattle.gb_bus.specs.Parts.{next_of, numbered, put}
-use Rattle.gb_bus.specs.Sending.{Sends, SendsAs, SendsNone}
+use Rattle.gb_bus.specs.Sending.{MadeWhere, Sends, SendsAs, SendsNone, SendsNowhere}
+use Rattle.gb_bus.specs.Sending.{label_on}
 use Rattle.gb_bus.specs.Sides.{Asks, AsksIn, IsSpentIn, LabelsIn}
-use Rattle.gb_bus.specs.Slots.{Kept, MakesAs}
+use Rattle.gb_bus.specs.Slots.{SlotsKept, MakesAs}
 use Rattle.gb_bus.specs.Shown.{ask_in, item_in}
 use Rattle.gb_bus.specs.Stands.{AreMade, Around, KeepSides, Shows, Stands, kept}
 use Rattle.gb_bus.specs.declared.answers.SendFault.{SendFault}
@@ -141,7 +142,7 @@ new_item b d label number e =
 -- ---- the answer
 
 -- the bus once the request was kept and waits toward the other side
-abbrev pub sending_on : Draft → ℕ → ℕ → Kept → Bus → Bus
+abbrev pub sending_on : Draft → ℕ → ℕ → SlotsKept → Bus → Bus
 sending_on d label number y x = record x {
   connections = at_first (numbered d.connection)
       (put (other_side d.side) (code.Ask number label d.kind d.payload)) x.connections;
@@ -202,7 +203,7 @@ sent-unawaited d label b fits oneway =
 
 -- what is kept once a request is made
 kept-sent : (around : Around) (x : Bus) (b : machine.Bus) (d : Draft) (label number : ℕ)
-    (slot : Slot) (y : Kept) → Stands around x b → number ≡ next_number b
+    (slot : Slot) (y : SlotsKept) → Stands around x b → number ≡ next_number b
     → slot ≡ kept number true 0 None (requested d label)
     → (t : Bool) → d.oneway ≡ t → MakesAs t slot x.slots y
     → Tell y around.names (b.requests ++ requested d label ∷ [])
@@ -229,7 +230,7 @@ kept-sent around x b d label number slot y s place is false oneway makes =
 
 -- and what is counted
 counted-sent : (around : Around) (x : Bus) (b : machine.Bus) (d : Draft) (label : ℕ)
-    (slot : Slot) (y : Kept) → Stands around x b → (t : Bool) → d.oneway ≡ t
+    (slot : Slot) (y : SlotsKept) → Stands around x b → (t : Bool) → d.oneway ≡ t
     → MakesAs t slot x.slots y → Tells y.tally (sent d label b)
 counted-sent around x b d label slot y s t oneway makes =
     tells-made x.slots.tally y.tally b (sent d label b) (requested d label) (first_outcome t) refl
@@ -243,7 +244,8 @@ counted-sent around x b d label slot y s t oneway makes =
     by false m = m.tally_is
 
 shows-sent : (around : Around) (x : Bus) (b : machine.Bus) (d : Draft) (label number : ℕ)
-    (cs : List Connection) (slot : Slot) (y : Kept) → Stands around x b → number ≡ next_number b
+    (cs : List Connection) (slot : Slot) (y : SlotsKept) → Stands around x b
+    → number ≡ next_number b
     → slot ≡ kept number true 0 None (requested d label) → MakesAs d.oneway slot x.slots y
     → AreShown (b.requests ++ requested d label ∷ [])
     (at_first (numbered d.connection)
@@ -267,19 +269,28 @@ none_on : (o : Option machine.Connection) → option_and_then (λ c. let n : Opt
 none_on None = refl
 none_on (Some c) = refl
 
--- The answer where no identifier was had, or the connection isn't live.
+-- the machine's connection is live where that of the bus is
+live-twin : (rs : List Request) (k : ℕ) (xs : List Connection) (cs : List machine.Connection)
+    → AreShown rs xs cs → is_some (find (numbered k) xs) ≡ true
+    → is_some (find (has_number k) cs) ≡ true
+live-twin rs k xs cs shown live = by (find (numbered k) xs) refl live
+  where
+    by : (o : Option Connection) → find (numbered k) xs ≡ o → is_some o ≡ true
+        → is_some (find (has_number k) cs) ≡ true
+    by None e h = absurd cc
+    by (Some x) e h = ap is_some (twin rs k xs cs x shown e).live
+
+-- the answer where no identifier is left
 spent : (around : Around) (x : Bus) (b : machine.Bus) (k : ℕ) (at : Side) (kind : ℕ)
     (payload : List ℕ) (deadline : ℕ) (oneway : Bool) → Stands around x b
-    → IsSpentIn oneway k at x.connections
+    → IsSpentIn x.connections k at oneway
     → SendsNone around x (draft k at kind payload deadline oneway) b
-spent around x b k at kind payload deadline true s none = record {
-  label = ap (option_and_then (λ c. label_for (draft k at kind payload deadline true) b))
-      (no-twin b.requests k x.connections b.connections s.shows.connections none);
-  stands = s;
-}
-spent around x b k at kind payload deadline false s none = record {
-  label = ap (λ o. option_and_then (λ c. o) (connection_of k b))
-      (sym (next-is x b k at s.shows) ∙ none) ∙ none_on (connection_of k b);
+spent around x b k at kind payload deadline oneway s none = record {
+  live = live-twin b.requests k x.connections b.connections s.shows.connections none.live;
+  needs = none.needs;
+  label = ap (λ t. label_on (draft k at kind payload deadline t) b) none.needs
+      ∙ ap (λ o. option_and_then (λ c. o) (connection_of k b))
+      (sym (next-is x b k at s.shows) ∙ none.spent) ∙ none_on (connection_of k b);
   stands = s;
 }
 
@@ -293,12 +304,27 @@ sends_none around x cs b k at n kind payload deadline oneway fault.NoLabel s h =
     subst (λ ys. SendsNone around (record x { connections = ys })
     (draft k at kind payload deadline oneway) b) (sym h.1)
     (spent around x b k at kind payload deadline oneway s h.0)
+sends_none around x cs b k at n kind payload deadline oneway fault.NoConnection s h =
+    subst (λ ys. SendsNowhere around (record x { connections = ys })
+    (draft k at kind payload deadline oneway) b) (sym h.1) (record {
+      gone = no-twin b.requests k x.connections b.connections s.shows.connections h.0;
+      stands = s;
+    })
 sends_none around x cs b k at n kind payload deadline oneway (fault.Memory m) s h = tt
+
+-- whether the connection is live, and why no request is made
+pub made-where : (x : Bus) (cs : List Connection) (k : ℕ) (at : Side) (n kind : ℕ)
+    (payload : List ℕ) (deadline : ℕ) (oneway : Bool) (e : SendFault)
+    → AsksIn x.connections cs k at n kind payload deadline oneway (Err e)
+    → MadeWhere x k at oneway (Err e)
+made-where x cs k at n kind payload deadline oneway fault.NoLabel h = h.0
+made-where x cs k at n kind payload deadline oneway fault.NoConnection h = ap is_some h.0
+made-where x cs k at n kind payload deadline oneway (fault.Memory m) h = λ low. h
 
 -- the answer where what waits and what is kept are given at once
 sends_on : (around : Around) (x : Bus) (ys : List Connection) (z : Bus) (b : machine.Bus) (k : ℕ)
     (at : Side) (kind : ℕ) (payload : List ℕ) (deadline : ℕ) (oneway : Bool)
-    (label number : ℕ) (lost : Bool) (found : Connection) (slot : Slot) (w : Kept)
+    (label number : ℕ) (lost : Bool) (found : Connection) (slot : Slot) (w : SlotsKept)
     → Stands around x b → number ≡ next_number b
     → LabelsIn x.connections ys k at (next_number b) deadline oneway label
     → find (numbered k) x.connections ≡ Some found → lost ≡ not found.wired
@@ -340,7 +366,7 @@ sends_on around x ys z b k at kind payload deadline oneway label number lost fou
 -- given by their parts.
 pub sends : (around : Around) (x : Bus) (b : machine.Bus) (k : ℕ) (at : Side) (kind : ℕ)
     (payload : List ℕ) (deadline : ℕ) (oneway : Bool)
-    (label number : ℕ) (lost : Bool) (slot : Slot) (cs : List Connection) (w : Kept)
+    (label number : ℕ) (lost : Bool) (slot : Slot) (cs : List Connection) (w : SlotsKept)
     → Stands around x b → number ≡ x.slots.tally.requests + 1
     → Asks x.connections cs k at number kind payload deadline oneway label lost
     → slot ≡ kept number true 0 None (requested (draft k at kind payload deadline oneway) label)

@@ -6,7 +6,7 @@ use Rattle.gb_base.specs.declared.end.Side.{Side}
 use Rattle.gb_base.specs.declared.end.Side.TheVariants as side
 use Rattle.gb_bus.proofs.Finding.{twin}
 use Rattle.gb_bus.proofs.SideLists.{Was, here, past, was}
-use Rattle.gb_bus.proofs.Moves.{ops-number}
+use Rattle.gb_bus.proofs.ConnectionChanges.{ops-number}
 use Rattle.gb_bus.proofs.SideParts.{with_ops-other, with_ops-own}
 use Rattle.gb_bus.proofs.SideStates.{SameSide, keeps-same, same-side}
 use Rattle.gb_bus.proofs.Standing.{AreShown}

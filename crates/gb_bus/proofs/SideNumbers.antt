@@ -76,7 +76,7 @@ pending-open names b k n at h = by (request_of n b) refl h
         let w = both (is_open n b) (is_of k at r) r e in
         is-open-on names b k n at r made w.1 (free (request_of n b) w.0)
 
-open-pending : (names : List ℕ) (b : machine.Bus) (k n : ℕ) (at : Side)
+pub open-pending : (names : List ℕ) (b : machine.Bus) (k n : ℕ) (at : Side)
     → is_open_on k at (slot_of names n b) ≡ true → is_some (pending_of k at n b) ≡ true
 open-pending names b k n at h =
     let q = in-open_requests (is_of k at) b n (open-on-is names b k n at h) in
@@ -144,19 +144,19 @@ given-up b n awaited over = by (outcome_of n b) refl over
 -- ---- what a side lists
 
 -- a side of a live connection, with what is kept of it
-record Kept (x : Bus) (b : machine.Bus) (k : ℕ) (at : Side) (ops : Operations) : Type 0 where
-  connection : machine.Connection
-  live : connection_of k b ≡ Some connection
-  last : ℕ
-  keeps : KeepsSide k at ops last b
+pub record KeptOn (b : machine.Bus) (k : ℕ) (at : Side) (ops : Operations) : Type 0 where
+  pub connection : machine.Connection
+  pub live : connection_of k b ≡ Some connection
+  pub last : ℕ
+  pub keeps : KeepsSide k at ops last b
 
-kept-side : (around : Around) (x : Bus) (b : machine.Bus) (k : ℕ) (at : Side) (ops : Operations)
+pub kept-side : (around : Around) (x : Bus) (b : machine.Bus) (k : ℕ) (at : Side) (ops : Operations)
     → Stands around x b → Some ops ≡ option_map (ops_of at) (find (numbered k) x.connections)
-    → Kept x b k at ops
+    → KeptOn b k at ops
 kept-side around x b k at ops s is = by (find (numbered k) x.connections) refl is
   where
     by : (o : Option Connection) → find (numbered k) x.connections ≡ o
-        → Some ops ≡ option_map (ops_of at) o → Kept x b k at ops
+        → Some ops ≡ option_map (ops_of at) o → KeptOn b k at ops
     by None e h = absurd cc
     by (Some v) e h =
         let t = twin b.requests k x.connections b.connections v s.shows.connections e in
@@ -191,7 +191,7 @@ lists-late : (around : Around) (x : Bus) (b : machine.Bus) (k : ℕ) (at : Side)
 lists-late around x b k at ops ns s is lists =
     are-those (IsLate ops) (λ n. is_late_on k at (slot_at x.slots n)) ns lists passes holds
   where
-    own : Kept x b k at ops
+    own : KeptOn b k at ops
     own = kept-side around x b k at ops s is
 
     passes : (n : ℕ) → IsLate ops n → is_late_on k at (slot_at x.slots n) ≡ true

@@ -3,7 +3,7 @@ use Rattle.std.proofs.Common.{◌≡◌, ℕ, Bool, true, false, cond, refl, ap,
 use Rattle.gb_base.specs.declared.end.End.{End}
 use Rattle.gb_base.specs.declared.end.Side.{Side}
 use Rattle.gb_base.specs.declared.end.Side.TheVariants as side
-use Rattle.gb_bus.proofs.Moves.{put-last}
+use Rattle.gb_bus.proofs.ConnectionChanges.{put-last}
 use Rattle.gb_bus.specs.Parts.{new_connection, ops_of, with_ops}
 use Rattle.gb_bus.specs.Connection.{Connection}
 use Rattle.gb_machine.specs.Bus as machine

@@ -26,6 +26,7 @@ use Rattle.gb_ops.specs.Calls.{Begins}
 use Rattle.gb_ops.specs.Operations.{Operations, holder_of, is_held, next_label, pending_at}
 use Rattle.gb_ops.specs.declared.entries.Holder.{Holder}
 use Rattle.gb_ops.specs.declared.entries.Pending.{Pending}
+use Rattle.gb_table.specs.Table.{Puts}
 
 -- ---- identifiers
 
@@ -162,6 +163,20 @@ side-begins x y b c d label fits twoway live begins keeps =
     free : is_used d.connection d.side b label ≡ false
     free = next-free d.connection d.side x c b label keeps live begins.next
 
+    -- it wasn't open before
+    fresh : pending_at x (next_number b) ≡ None
+    fresh = by (pending_at x (next_number b)) refl
+      where
+        by : (o : Option Pending) → pending_at x (next_number b) ≡ o → o ≡ None
+        by None e = refl
+        by (Some p) e =
+            let q = t.pending (next_number b) p e in
+            absurd (not-next b (next_number b) q.request q.made refl)
+
+    holds : Puts (holder_of x) (holder_of y) label
+        (Some (record { number = next_number b; given_up = false }))
+    holds = begins.holder fresh
+
     first : Holder
     first = record { number = next_number b; given_up = false }
 
@@ -218,13 +233,13 @@ side-begins x y b c d label fits twoway live begins keeps =
         → (request_of m b ≡ Some r) ⊎ ((m ≡ next_number b) × (r ≡ requested d label))
         → holder_of y r.label ≡ Some (holding m b)
     held m r own (inl awaited) (inl made) =
-        begins.holder.others r.label
+        holds.others r.label
         (λ is. not-both (is_used d.connection d.side b label)
         (ap (is_used d.connection d.side b) (sym is)
         ∙ own-used d.connection d.side b m r made own awaited) free)
         ∙ t.held m r made own awaited
     held m r own awaited (inr new) =
-        ap (λ (q : Request). holder_of y q.label) new.1 ∙ begins.holder.here ∙ ap Some first_is
+        ap (λ (q : Request). holder_of y q.label) new.1 ∙ holds.here ∙ ap Some first_is
         ∙ ap (λ n. Some (holding n b)) (sym new.0)
     held m r own (inr new) (inl made) = absurd (not-next b m r made new.0)
 
@@ -232,7 +247,7 @@ side-begins x y b c d label fits twoway live begins keeps =
         → IsHolder d.connection d.side l h (sent d label b)
     used l h e (inl is) =
         let same : first ≡ h = same-some first h
-        (sym begins.holder.here ∙ ap (holder_of y) (sym is) ∙ e) in
+        (sym holds.here ∙ ap (holder_of y) (sym is) ∙ e) in
         let number : next_number b ≡ h.number = ap (λ (g : Holder). g.number) same in record {
           request = requested d label;
           made = ap (λ n. request_of n (sent d label b)) (sym number) ∙ sent-new d label b;
@@ -243,7 +258,7 @@ side-begins x y b c d label fits twoway live begins keeps =
           is = sym same ∙ first_is ∙ ap (λ n. holding n b) number;
         }
     used l h e (inr other) =
-        let q = t.used l h (sym (begins.holder.others l other) ∙ e) in record {
+        let q = t.used l h (sym (holds.others l other) ∙ e) in record {
           request = q.request;
           made = sent-request d label b h.number q.request q.made;
           own = q.own;

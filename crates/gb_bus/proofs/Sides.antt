@@ -12,7 +12,7 @@ use Rattle.gb_bus.proofs.SideLists.{find-behind, find-front, find-left, find-one
 use Rattle.gb_bus.proofs.SideMoves.{before, changed, changes-side, combine, elsewhere, moved}
 use Rattle.gb_bus.proofs.SideMoves.{same-requests, unchanged}
 use Rattle.gb_bus.proofs.Changing.{twice}
-use Rattle.gb_bus.proofs.Moves.{ops-number, put-number, put-ops}
+use Rattle.gb_bus.proofs.ConnectionChanges.{ops-number, put-number, put-ops}
 use Rattle.gb_bus.proofs.SideParts.{asking, asking-number, asking-oneway, asking-other, asking-own}
 use Rattle.gb_bus.proofs.SideParts.{new-last, new-ops, with_ops-other, with_ops-own}
 use Rattle.gb_bus.proofs.SideSends.{next-is, same-sent, side-begins}

@@ -7,7 +7,7 @@ use Rattle.gb_base.specs.declared.outcome.Outcome.{Outcome}
 use Rattle.gb_base.specs.declared.outcome.Outcome.TheVariants as outcome
 use Rattle.gb_bus.proofs.SlotMaps.{same-number, other-number}
 use Rattle.gb_bus.specs.Counting.{one_ended}
-use Rattle.gb_bus.specs.Slots.{Closes, Kept, MovesAt, all_disconnected, closes, ended_at}
+use Rattle.gb_bus.specs.Slots.{Closes, SlotsKept, MovesAt, all_disconnected, closes, ended_at}
 use Rattle.gb_bus.specs.Slots.{ends_so, forgets, frees, is_open_slot, slot_at}
 use Rattle.gb_bus.specs.declared.slots.Slot.{Slot}
 use Rattle.gb_machine.specs.Members.{Each}
@@ -60,7 +60,7 @@ closed-once unended late slot = by unended slot.outcome
 
 -- ---- one request more
 
-module _ (a b c : Kept) (x : ℕ) where
+module _ (a b c : SlotsKept) (x : ℕ) where
   at-other : (change : Slot → Option Slot) (m : ℕ)
       → slot_at b m ≡ cond (eqb m x) (option_and_then change (slot_at a m)) (slot_at a m)
       → (m ≡ x → ⊥) → slot_at b m ≡ slot_at a m
@@ -147,7 +147,7 @@ module _ (a b c : Kept) (x : ℕ) where
           (sym (other-number x m (λ e. ne (sym e))))
 
 -- nothing is left to close
-pub closes-none : (a : Kept) → Closes [] [] a a
+pub closes-none : (a : SlotsKept) → Closes [] [] a a
 closes-none a = record { at = λ m. by (slot_at a m); tally_is = λ all. refl }
   where
     by : (o : Option Slot) → o ≡ option_and_then (closes false false) o

@@ -22,7 +22,7 @@ use Rattle.gb_bus.proofs.SlotDues.{least-from, stands-due}
 use Rattle.gb_bus.proofs.SlotMaps.{both-same, found, key-same, latest}
 use Rattle.gb_bus.specs.Keeping.{Deadlines, IsKept, Places, by_deadline, by_latest, kept_in}
 use Rattle.gb_bus.specs.Keeping.{waits_until}
-use Rattle.gb_bus.specs.Slots.{Kept, is_due, slot_at}
+use Rattle.gb_bus.specs.Slots.{SlotsKept, is_due, slot_at}
 use Rattle.gb_bus.specs.declared.slots.Slot.{Slot}
 use Rattle.gb_bus.specs.declared.tally.Tally.{Tally}
 use Rattle.gb_bus.specs.Listing.{AreThose, FindsLeast, stands_in}
@@ -158,7 +158,7 @@ same-any c n (r ∷ rs) =
 -- ---- what the slots say
 
 module _ (s : Slab Slot) (p : Places) (d : Deadlines) (t : Tally) (now : ℕ)
-    (x : Kept) (k : IsKept s p d t) (view : kept_in s p t ≡ x)
+    (x : SlotsKept) (k : IsKept s p d t) (view : kept_in s p t ≡ x)
     (sorted : IsStrictlySortedBy by_latest d.keys) where
   abbrev ks : List (ℕ × ℕ)
   ks = earliest-first d.keys

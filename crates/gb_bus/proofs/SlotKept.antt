@@ -16,7 +16,7 @@ use Rattle.gb_bus.proofs.SlotMaps.{same-number, same-some, time-here, time-other
 use Rattle.gb_bus.specs.Counting.{counted_once, one_ended}
 use Rattle.gb_bus.specs.Keeping.{Deadlines, IsKept, Places, has_deadline, is_let_go, kept_in}
 use Rattle.gb_bus.specs.Keeping.{waits_until}
-use Rattle.gb_bus.specs.Slots.{ChangesAt, Kept, MovesAt, is_asked_for, is_open_slot}
+use Rattle.gb_bus.specs.Slots.{ChangesAt, SlotsKept, MovesAt, is_asked_for, is_open_slot}
 use Rattle.gb_bus.specs.declared.slots.Slot.{Slot}
 use Rattle.gb_bus.specs.declared.tally.Tally.{Tally}
 use Rattle.gb_table.specs.Table.{Puts, item_at}
@@ -135,7 +135,7 @@ module _ (s : Slab Slot) (p : Places) (d : Deadlines) (t : Tally) (n key : ℕ)
       i.place (updates s key slot slot2 i.stands)
       (number ∙ its-number s p n key slot (all-placed s p d t k) i)
 
-  pub changed-moves : (x : Kept) (t2 wanted : Tally) (change : Slot → Option Slot)
+  pub changed-moves : (x : SlotsKept) (t2 wanted : Tally) (change : Slot → Option Slot)
       → kept_in s p t ≡ x → change slot ≡ Some slot2 → t2 ≡ wanted
       → MovesAt n change wanted x (kept_in (with_value s key slot2) p t2)
   changed-moves x t2 wanted change view is tally = record {
@@ -285,7 +285,8 @@ module _ (s s2 : Slab Slot) (p p2 : Places) (d : Deadlines) (t : Tally)
           (λ m ne. sym (ap (λ b. cond b false (has_deadline d (c, m)))
           (other-number m n ne)))
 
-  pub gone-moves : (x : Kept) → kept_in s p t ≡ x → MovesAt n is_let_go x.tally x (kept_in s2 p2 t)
+  pub gone-moves : (x : SlotsKept) → kept_in s p t ≡ x
+      → MovesAt n is_let_go x.tally x (kept_in s2 p2 t)
   gone-moves x view = record {
     at = subst (λ y. ChangesAt n is_let_go y (kept_in s2 p2 t)) view
         (moved n None is_let_go (found s p) (found s2 p2)

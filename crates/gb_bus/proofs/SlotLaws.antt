@@ -5,7 +5,7 @@ use Rattle.std.proofs.Common.{refl, sym, ap, ◌∙◌, ⊎_elim, arith, length-
 use Rattle.std.proofs.lemmas.Bool.{cases_eq, cases_lt}
 use Rattle.std.proofs.lemmas.Bool.Decides.{nat_tests}
 use Rattle.gb_base.specs.declared.outcome.Outcome.{Outcome}
-use Rattle.gb_bus.specs.Slots.{ChangesAt, Kept, ends_so, forgets, gets_name, gives_up_so}
+use Rattle.gb_bus.specs.Slots.{ChangesAt, SlotsKept, ends_so, forgets, gets_name, gives_up_so}
 use Rattle.gb_bus.specs.Slots.{loses_name, most_names, one_more, slot_at}
 use Rattle.gb_bus.specs.Stands.{kept, kept_of}
 use Rattle.gb_bus.specs.declared.slots.Slot.{Slot}
@@ -16,7 +16,7 @@ use Rattle.gb_machine.specs.Lists.{nth}
 use Rattle.gb_bus.specs.Listing.{count}
 
 -- The slots say what is asked for, and how it stands.
-abbrev pub Tell : Kept → List ℕ → List Request → (ℕ → Bool) → (ℕ → Option Outcome) → Type 0
+abbrev pub Tell : SlotsKept → List ℕ → List Request → (ℕ → Bool) → (ℕ → Option Outcome) → Type 0
 Tell x names reqs awaited how =
     (n : ℕ) → slot_at x n ≡ kept_of n (awaited n) (count n names) (how n) (nth n reqs)
 
@@ -32,7 +32,7 @@ pub record Moves (n : ℕ) (change : Slot → Option Slot) (names more : List �
   pub counts : (m : ℕ) → m ≢ n → count m more ≡ count m names
   pub ends : (m : ℕ) → m ≢ n → after m ≡ how m
 
-pub tell_moved : (old new : Kept) (n : ℕ) (change : Slot → Option Slot) (names more : List ℕ)
+pub tell_moved : (old new : SlotsKept) (n : ℕ) (change : Slot → Option Slot) (names more : List ℕ)
     (reqs : List Request) (awaited later : ℕ → Bool) (how after : ℕ → Option Outcome)
     → Moves n change names more reqs awaited later how after → ChangesAt n change old new
     → Tell old names reqs awaited how → Tell new more reqs later after
@@ -148,7 +148,7 @@ here-unnamed n c d a h r less =
 -- ---- one more request
 
 -- what is said of the requests that were made before, and of those that weren't made
-others-tell : (old : Kept) (names : List ℕ) (reqs : List Request) (awaited later : ℕ → Bool)
+others-tell : (old : SlotsKept) (names : List ℕ) (reqs : List Request) (awaited later : ℕ → Bool)
     (how after : ℕ → Option Outcome) (r : Request)
     → ((m : ℕ) → m ≤ length reqs → later m ≡ awaited m)
     → ((m : ℕ) → m ≤ length reqs → after m ≡ how m)
@@ -177,7 +177,7 @@ others-tell old names reqs awaited later how after r awaits ends tell m other =
         ∙ ap (kept_of m (awaited m) (count m names) (how m)) (nth-push-below m reqs r h))
 
 -- a request that is open is kept
-pub tell_more : (old new : Kept) (slot : Slot) (names : List ℕ) (reqs : List Request)
+pub tell_more : (old new : SlotsKept) (slot : Slot) (names : List ℕ) (reqs : List Request)
     (awaited later : ℕ → Bool) (how after : ℕ → Option Outcome) (r : Request)
     → ((m : ℕ) → slot_at new m ≡ cond (eqb m slot.number) (Some slot) (slot_at old m))
     → slot ≡ kept (length reqs + 1) true 0 None r
@@ -219,7 +219,7 @@ tell_more old new slot names reqs awaited later how after r puts is awaits ends 
         (let other : m ≢ k = grind (arith, nat_tests, e) in other)
 
 -- of one that is unidirectional nothing is
-pub tell_sent : (old new : Kept) (names : List ℕ) (reqs : List Request)
+pub tell_sent : (old new : SlotsKept) (names : List ℕ) (reqs : List Request)
     (awaited later : ℕ → Bool) (how after : ℕ → Option Outcome) (r : Request)
     → ((m : ℕ) → slot_at new m ≡ slot_at old m)
     → ((m : ℕ) → m ≤ length reqs → later m ≡ awaited m)

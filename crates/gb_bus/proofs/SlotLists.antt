@@ -15,7 +15,7 @@ use Rattle.gb_bus.proofs.SlotDues.{stands-put}
 use Rattle.gb_bus.proofs.SlotMaps.{other-number, same-number}
 use Rattle.gb_bus.specs.Keeping.{numbers_where, put_where}
 use Rattle.gb_bus.specs.Listing.{AreThose, stands_in}
-use Rattle.gb_bus.specs.Slots.{Kept, slot_at, under}
+use Rattle.gb_bus.specs.Slots.{SlotsKept, slot_at, under}
 use Rattle.gb_bus.specs.declared.slots.Slot.{Slot}
 use Rattle.gb_ops.proofs.Listing.{rising}
 use Rattle.gb_table.specs.Table.{item_at}
@@ -83,7 +83,7 @@ under-found f u None none = none
 under-found f u (Some key) none = refl
 
 -- The numbers whose slots pass a test, in order.
-pub slots-listed : (x : Kept) (f : Option Slot → Bool) (ns : List ℕ) → f None ≡ false
+pub slots-listed : (x : SlotsKept) (f : Option Slot → Bool) (ns : List ℕ) → f None ≡ false
     → IsDistinct eqb (keys_of x.places) → IsStrictlySortedBy nat_cmp ns
     → ns ≡ numbers_where (λ key. f (under x.slots key)) [] x.places
     → AreThose (λ n. f (slot_at x n)) ns

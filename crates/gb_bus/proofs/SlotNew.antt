@@ -13,7 +13,7 @@ use Rattle.gb_bus.proofs.SlotMaps.{same-number, same-some, time-here, time-other
 use Rattle.gb_bus.proofs.SlotKept.{TimesAt, all-placed, kept-from}
 use Rattle.gb_bus.specs.Counting.{counted_once, with_one}
 use Rattle.gb_bus.specs.Keeping.{Deadlines, IsKept, Places, has_deadline, waits_until}
-use Rattle.gb_bus.specs.Slots.{Kept, MakesAs, key_at}
+use Rattle.gb_bus.specs.Slots.{SlotsKept, MakesAs, key_at}
 use Rattle.gb_bus.specs.declared.slots.Slot.{Slot}
 use Rattle.gb_bus.specs.declared.tally.Tally.{Tally}
 use Rattle.gb_table.specs.Table.{Puts, item_at}
@@ -156,7 +156,7 @@ module _ (s : Slab Slot) (p : Places) (d : Deadlines) (t : Tally) (slot : Slot)
             (other-number m slot.number ne)))
 
 -- a request that isn't unidirectional is in the slot that came next
-pub placed : (oneway : Bool) (slot : Slot) (old new : Kept) → MakesAs oneway slot old new
+pub placed : (oneway : Bool) (slot : Slot) (old new : SlotsKept) → MakesAs oneway slot old new
     → oneway ≡ false → key_at new slot.number ≡ Some old.next
 placed false slot old new made e = made.placed
 placed true slot old new made e = absurd (cc e)

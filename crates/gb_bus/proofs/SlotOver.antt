@@ -9,20 +9,20 @@ use Rattle.gb_bus.proofs.SlotKept.{IsThere, changed-moves, is-found}
 use Rattle.gb_bus.proofs.SlotMaps.{each-number, other-number}
 use Rattle.gb_bus.specs.Counting.{one_ended}
 use Rattle.gb_bus.specs.Keeping.{Deadlines, IsKept, Places, kept_in}
-use Rattle.gb_bus.specs.Slots.{Kept, MovesAt, ended_at, gives_up_so, is_open_slot, slot_at}
+use Rattle.gb_bus.specs.Slots.{SlotsKept, MovesAt, ended_at, gives_up_so, is_open_slot, slot_at}
 use Rattle.gb_bus.specs.declared.slots.Slot.{Slot}
 use Rattle.gb_bus.specs.declared.tally.Tally.{Tally}
 use Rattle.gb_table.specs.Table.{item_at}
 
 -- ---- whether it is open
 
-pub over-nowhere : (s : Slab Slot) (p : Places) (t : Tally) (n : ℕ) (x : Kept)
+pub over-nowhere : (s : Slab Slot) (p : Places) (t : Tally) (n : ℕ) (x : SlotsKept)
     → kept_in s p t ≡ x → item_at p n ≡ None → is_open_slot (slot_at x n) ≡ false
 over-nowhere s p t n x view none =
     ap (λ y. is_open_slot (slot_at y n)) (sym view)
     ∙ ap (λ o. is_open_slot (option_and_then (slab.get s) o)) none
 
-pub open-there : (s : Slab Slot) (p : Places) (t : Tally) (n key : ℕ) (slot : Slot) (x : Kept)
+pub open-there : (s : Slab Slot) (p : Places) (t : Tally) (n key : ℕ) (slot : Slot) (x : SlotsKept)
     → kept_in s p t ≡ x → IsThere s p n key slot → is_open_slot (slot_at x n) ≡ is_none slot.outcome
 open-there s p t n key slot x view there =
     ap (λ y. is_open_slot (slot_at y n)) (sym view)
@@ -45,7 +45,7 @@ some-where (Some x) b e f n = absurd (cc n)
 -- ---- what becomes of it
 
 -- a request that isn't open stays
-pub stays-over : (n : ℕ) (how : Outcome) (x : Kept) → is_open_slot (slot_at x n) ≡ false
+pub stays-over : (n : ℕ) (how : Outcome) (x : SlotsKept) → is_open_slot (slot_at x n) ≡ false
     → MovesAt n (gives_up_so how) (ended_at n how x) x x
 stays-over n how x over = record {
   at = each-number n
@@ -69,7 +69,7 @@ stays-over n how x over = record {
     by false = refl
 
 module _ (s : Slab Slot) (p : Places) (d : Deadlines) (t : Tally) (n key : ℕ)
-    (slot : Slot) (k : IsKept s p d t) (i : IsThere s p n key slot) (how : Outcome) (x : Kept)
+    (slot : Slot) (k : IsKept s p d t) (i : IsThere s p n key slot) (how : Outcome) (x : SlotsKept)
     (view : kept_in s p t ≡ x) where
   -- so does its slot
   pub moves-over : is_none slot.outcome ≡ false

@@ -8,7 +8,8 @@ use Rattle.gb_base.specs.declared.outcome.Outcome.{Outcome}
 use Rattle.gb_bus.proofs.Endings.{shows-ended, shows-forgotten}
 use Rattle.gb_bus.proofs.Finding.{twin}
 use Rattle.gb_bus.proofs.Loosening.{fits-without}
-use Rattle.gb_bus.proofs.Moves.{front-last, front-shown, front-ops, front-seen, queue-number}
+use Rattle.gb_bus.proofs.ConnectionChanges.{front-last, front-shown, front-ops, front-seen}
+use Rattle.gb_bus.proofs.ConnectionChanges.{queue-number}
 use Rattle.gb_bus.proofs.Sides.{sides-changed}
 use Rattle.gb_bus.proofs.Standing.{AreShown, IsShown, changed}
 use Rattle.gb_bus.proofs.Wires.{shows-connections}

@@ -15,14 +15,14 @@ use Rattle.gb_bus.proofs.Earliest.{OneMore, WaitsIn, WaitsOn, before-through, ha
 use Rattle.gb_bus.proofs.Earliest.{not-before-self, one-end}
 use Rattle.gb_bus.proofs.Entries.{EachEntry, NoKey, each-entry, others-behind, same-some}
 use Rattle.gb_bus.proofs.Keeping.{Queues, number-of-end, two-ends}
-use Rattle.gb_bus.proofs.Tellings.{with-some}
-use Rattle.gb_bus.specs.Index.{Ends, IsEndOf, IsIndexed, Kept, Live}
+use Rattle.gb_bus.proofs.Overviews.{with-some}
+use Rattle.gb_bus.specs.Index.{Ends, IsEndOf, IsIndexed, MapsAgree, Live}
 use Rattle.gb_bus.specs.Parts.{is_none_left}
 use Rattle.gb_bus.specs.Seen.{all_seen, items_of, seen}
-use Rattle.gb_bus.specs.Telling.{waiting_at, waiting_before, waiting_in, with_end}
+use Rattle.gb_bus.specs.Overview.{waiting_at, waiting_before, waiting_in, with_end}
 use Rattle.gb_bus.specs.declared.connection.Connection as code
 use Rattle.gb_bus.specs.declared.queue.Item.{Item}
-use Rattle.gb_bus.specs.declared.telling.Waiting.{Waiting}
+use Rattle.gb_bus.specs.declared.overview.Waiting.{Waiting}
 use Rattle.gb_machine.proofs.Ordering.{in_order-map}
 use Rattle.gb_machine.specs.Lists.{in_order}
 use Rattle.gb_machine.specs.Waiting.{end_before}
@@ -249,7 +249,7 @@ waiting-order numbers q (e ∷ es) distinct each =
         (with_end c.peer (length (seen q e.0 c).to_far) (waiting_in (all_seen q es)))
         (end-order rest c.peer (seen q e.0 c).to_far (waiting_in (all_seen q es)) h
         (alone c.peer (inr refl)))
-        (λ w. ⊎_elim (λ p. two-ends (end.Ap c.ap) c.peer each.0.two p.1)
+        (λ w. ⊎_elim (λ p. two-ends c.ap c.peer each.0.beyond p.1)
         (alone (end.Ap c.ap) (inl refl)) w))
     by false unwired h =
         same-order rest (λ a. WaitsOn (seen q e.0 c) a ⊎ rest a)
@@ -315,7 +315,7 @@ by-ends q (w ∷ ws) h =
 -- ---- what the queues list
 
 pub waiting-is : (live : Live) (numbers : Ends) (q : Queues) (es : List End)
-    → Kept live numbers q → ListsWaiting (items_at q) es
+    → MapsAgree live numbers q → ListsWaiting (items_at q) es
     → map (waiting_at q) es ≡ waiting_in (all_seen q live.entries)
 waiting-is live numbers q es kept lists =
     ap (map (waiting_at q))

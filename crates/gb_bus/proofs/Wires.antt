@@ -7,14 +7,14 @@ use Rattle.gb_base.specs.declared.end.Side.TheVariants as side
 use Rattle.gb_bus.proofs.Changing.{twice}
 use Rattle.gb_bus.proofs.Closing.{are-open, opened-on, tell_closed, tells-side}
 use Rattle.gb_bus.proofs.Counted.{tells-same}
-use Rattle.gb_bus.proofs.Moves.{wire-last, wire-ops}
+use Rattle.gb_bus.proofs.ConnectionChanges.{wire-last, wire-ops}
 use Rattle.gb_bus.proofs.Sides.{sides-attached, sides-changed, sides-closed, sides-detached}
 use Rattle.gb_bus.proofs.Standing.{AreShown, changed, one-more, removed}
 use Rattle.gb_bus.specs.Counting.{Tells}
 use Rattle.gb_bus.specs.Listing.{AreThose}
 use Rattle.gb_bus.specs.Parts.{cleared, closed, new_connection, numbered, ops_of, with_ops}
 use Rattle.gb_bus.specs.Parts.{with_wire}
-use Rattle.gb_bus.specs.Slots.{Closes, Kept, all_disconnected, is_late_on, is_open_on, slot_at}
+use Rattle.gb_bus.specs.Slots.{Closes, SlotsKept, all_disconnected, is_late_on, is_open_on, slot_at}
 use Rattle.gb_bus.specs.Stands.{Around, KeepSides, Keeps, Shows, Stands}
 use Rattle.gb_bus.specs.Wiring.{Attaches, EndsAs, IsOther, MayAttach, elsewhere}
 use Rattle.gb_bus.specs.declared.bus.Bus.{Bus}
@@ -146,7 +146,7 @@ attaches around x y b a i c protocol k s may number e =
 
 -- connections change, and a side of one ends
 shows-closed : (names : List ℕ) (x : Bus) (b : machine.Bus) (k : ℕ) (at : Side)
-    (xs : List Connection) (cs : List machine.Connection) (unended late : List ℕ) (y : Kept)
+    (xs : List Connection) (cs : List machine.Connection) (unended late : List ℕ) (y : SlotsKept)
     → AreShown b.requests xs cs → KeepSides xs (side_ended k at (record b { connections = cs }))
     → AreThose (λ n. is_open_on k at (slot_at x.slots n)) unended
     → AreThose (λ n. is_late_on k at (slot_at x.slots n)) late

@@ -1,5 +1,5 @@
 -- How live connections are kept: by number, the numbers by end, and what waits by end.
-use Rattle.std.specs.Prelude.{◌≡◌, ◌≢◌, ◌⊎◌, ℕ, true, false, Option, Some, None, IsSome, List}
+use Rattle.std.specs.Prelude.{◌≡◌, ◌≢◌, ◌⊎◌, ℕ, true, Option, Some, None, IsSome, List}
 use Rattle.std.specs.Prelude.{if◌then◌else◌, nat_eq, option_and_then, slice_get}
 use Rattle.std.specs.HashMap as map
 use Rattle.std.specs.HashMap.{HashMap}
@@ -12,12 +12,12 @@ use Rattle.gb_base.specs.declared.end.End.{End}
 use Rattle.gb_base.specs.declared.end.End.TheVariants as end
 use Rattle.gb_base.specs.declared.end.Side.{Side}
 use Rattle.gb_bus.specs.Connection.{Connection}
+use Rattle.gb_bus.specs.Ends.{is_far}
 use Rattle.gb_bus.specs.Parts.{new_connection, side_at}
 use Rattle.gb_bus.specs.Seen.{alone}
 use Rattle.gb_bus.specs.Sides.{toward}
 use Rattle.gb_bus.specs.declared.connection.Connection as code
 use Rattle.gb_bus.specs.declared.queue.Item.{Item}
-use Rattle.gb_machine.specs.Bus.{same_end}
 use Rattle.gb_switch.specs.Places.{end_cmp}
 use Rattle.gb_switch.specs.Queues.{Appends, items_at}
 
@@ -55,11 +55,12 @@ pub record LosesNumber (old new : Ends) (near far : End) : Type 0 where
 abbrev pub IsEndOf : End → code.Connection → Type 0
 IsEndOf at x = (at ≡ end.Ap x.ap) ⊎ (at ≡ x.peer)
 
--- Both ends of a connection have its number, and are two.
+-- Both ends of a connection have its number, and its far end isn't a CPort of the application
+-- processor.
 pub record IsIndexed (ends : Ends) (k : ℕ) (x : code.Connection) : Type 0 where
   pub near : number_at ends (end.Ap x.ap) ≡ Some k
   pub far : number_at ends x.peer ≡ Some k
-  pub two : same_end (end.Ap x.ap) x.peer ≡ false
+  pub beyond : is_far x.peer ≡ true
 
 -- an end is one of the live connection with a number
 pub record HasEnd (live : Live) (k : ℕ) (at : End) : Type 0 where
@@ -82,7 +83,7 @@ pub record HasQueues (queues : List (End × List Item)) (x : code.Connection) : 
 
 -- The ends that have numbers are those of one live connection each, and those that have queues are
 -- the ends of wired ones.
-pub record Kept (live : Live) (ends : Ends)
+pub record MapsAgree (live : Live) (ends : Ends)
     (queues : List (End × List Item)) : Type 0 where
   pub unique : IsUnique nat_eq live
   pub indexed : (k : ℕ) (x : code.Connection) → get nat_eq live k ≡ Some x → IsIndexed ends k x

@@ -8,7 +8,7 @@ use Rattle.std.specs.declared.cmp.Reverse.{Reverse}
 use Rattle.slab.specs.Slab as slab
 use Rattle.slab.specs.Slab.{Slab}
 use Rattle.gb_bus.specs.Counting.{counted_once}
-use Rattle.gb_bus.specs.Slots.{Kept, slot_at}
+use Rattle.gb_bus.specs.Slots.{SlotsKept, slot_at}
 use Rattle.gb_bus.specs.declared.slots.Slot.{Slot}
 use Rattle.gb_bus.specs.declared.tally.Tally.{Tally}
 use Rattle.gb_table.specs.Table.{item_at}
@@ -34,7 +34,7 @@ abbrev pub Places : Type 0
 Places = List (ℕ × ℕ)
 
 -- what is kept
-abbrev pub kept_in : Slab Slot → Places → Tally → Kept
+abbrev pub kept_in : Slab Slot → Places → Tally → SlotsKept
 kept_in slots places tally = record {
   slots = slots.slots;
   places = places;

@@ -9,6 +9,7 @@ pub mod Keeping
 pub mod Listing
 pub mod Moving
 pub mod Naming
+pub mod Overview
 pub mod Parts
 pub mod Raw
 pub mod Seen
@@ -18,5 +19,4 @@ pub mod Sides
 pub mod Slots
 pub mod Stands
 pub mod Taking
-pub mod Telling
 pub mod Wiring

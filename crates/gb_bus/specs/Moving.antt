@@ -48,19 +48,19 @@ IsMemory deliver.NoConnection = ⊥
 IsMemory deliver.QueueEmpty = ⊥
 
 -- an open request is answered
-abbrev pub EndsAs : Bus → Bus → ℕ → ℕ → ℕ → List ℕ → Result Arrival DeliverFault → Type 0
-EndsAs old new number kind code payload (Ok a) =
+abbrev pub AnswersOpenAs : Bus → Bus → ℕ → ℕ → ℕ → List ℕ → Result Arrival DeliverFault → Type 0
+AnswersOpenAs old new number kind code payload (Ok a) =
     (a ≡ arrival.Ended number kind code (shown code payload))
     × (new ≡ record old { slots = new.slots })
     × MovesAt number (ends_so (outcome.Answered code (shown code payload)))
     (ended_at number (outcome.Answered code (shown code payload)) old.slots) old.slots new.slots
-EndsAs old new number kind code payload (Err e) = IsMemory e
+AnswersOpenAs old new number kind code payload (Err e) = IsMemory e
 
 -- what an answer to a request with a number does once its identifier is free
 abbrev pub AnswersTo : Option ℕ → Bus → Bus → ℕ → ℕ → List ℕ → Matched
     → Result Arrival DeliverFault → Type 0
 AnswersTo (Some kind) old new number code payload (matched.Open m) r =
-    EndsAs old new number kind code payload r
+    AnswersOpenAs old new number kind code payload r
 AnswersTo kind old new number code payload m r =
     (r ≡ Ok (arrival.Late number)) × (new ≡ record old { slots = new.slots })
     × MovesAt number forgets old.slots.tally old.slots new.slots
@@ -82,23 +82,23 @@ AnswersAs old new k at number label code payload (Err e) = IsMemory e
 -- What a response with an identifier does to the bus, where the identifier is in use for an open
 -- request: it ends that. Wherever the bus stands the request is open by its slot too, so the case
 -- None doesn't happen.
-abbrev pub Opens : Bus → Bus → ℕ → ℕ → ℕ → List ℕ → Option ℕ → Arrival → Type 0
-Opens old new label number code payload (Some kind) a =
+abbrev pub EndsOpen : Bus → Bus → ℕ → ℕ → ℕ → List ℕ → Option ℕ → Arrival → Type 0
+EndsOpen old new label number code payload (Some kind) a =
     (a ≡ arrival.Ended number kind code (shown code payload))
     × ChangesRequest old new number (ends_so (outcome.Answered code (shown code payload)))
     (ended_at number (outcome.Answered code (shown code payload)) old.slots)
-Opens old new label number code payload None a =
+EndsOpen old new label number code payload None a =
     (a ≡ arrival.UnknownLabel label) × (new ≡ with_connections new.connections old)
 
-abbrev pub OpenedAs : Bus → Bus → ℕ → ℕ → ℕ → List ℕ → Result Arrival DeliverFault → Type 0
-OpenedAs old new number label code payload (Ok a) =
-    Opens old new label number code payload (open_kind (slot_at old.slots number)) a
+abbrev pub EndsOpenAs : Bus → Bus → ℕ → ℕ → ℕ → List ℕ → Result Arrival DeliverFault → Type 0
+EndsOpenAs old new number label code payload (Ok a) =
+    EndsOpen old new label number code payload (open_kind (slot_at old.slots number)) a
     × (new ≡ record old { slots = new.slots })
-OpenedAs old new number label code payload (Err e) = IsMemory e
+EndsOpenAs old new number label code payload (Err e) = IsMemory e
 
 -- what it does, by what its identifier was in use for, once that is free
 abbrev pub LabelsTo : Bus → Bus → ℕ → ℕ → List ℕ → Matched → Result Arrival DeliverFault → Type 0
-LabelsTo old new label code payload (matched.Open n) r = OpenedAs old new n label code payload r
+LabelsTo old new label code payload (matched.Open n) r = EndsOpenAs old new n label code payload r
 LabelsTo old new label code payload (matched.Late n) r =
     (r ≡ Ok (arrival.LateLabel label)) × (new ≡ record old { slots = new.slots })
     × MovesAt n forgets old.slots.tally old.slots new.slots
@@ -108,7 +108,7 @@ LabelsTo old new label code payload matched.Unknown r =
 -- What it does, by what its identifier is in use for.
 abbrev pub Labels : Bus → Bus → ℕ → ℕ → List ℕ → Matched → Arrival → Type 0
 Labels old new label code payload (matched.Open n) a =
-    Opens old new label n code payload (open_kind (slot_at old.slots n)) a
+    EndsOpen old new label n code payload (open_kind (slot_at old.slots n)) a
 Labels old new label code payload (matched.Late n) a =
     (a ≡ arrival.LateLabel label) × ChangesRequest old new n forgets old.slots.tally
 Labels old new label code payload matched.Unknown a =

@@ -1,6 +1,8 @@
 -- The connections of a bus, and what changes them.
-use Rattle.std.specs.Prelude.{◌≡◌, ℕ, ◌==◌, Bool, true, false, not, ◌&&◌, if◌then◌else◌, Option}
-use Rattle.std.specs.Prelude.{Some, None, option_and_then, option_map, List, [], ◌∷◌, ◌++◌, find}
+use Rattle.std.specs.Prelude.{◌≡◌, ℕ, ◌==◌, Bool, true, false, not, ◌&&◌, ◌||◌, Option}
+use Rattle.std.specs.Prelude.{if◌then◌else◌, Some, None, option_and_then, option_map, List, []}
+use Rattle.std.specs.Prelude.{◌∷◌, ◌++◌, find}
+use Rattle.std.specs.List.{list_any}
 use Rattle.gb_base.specs.declared.end.End.{End}
 use Rattle.gb_base.specs.declared.end.End.TheVariants as end
 use Rattle.gb_base.specs.declared.end.Side.{Side}
@@ -119,6 +121,14 @@ numbered k c = c.number == k
 -- a connection is that of a CPort of the application processor with a far end
 abbrev pub joins : ℕ → End → Connection → Bool
 joins a peer c = c.ap == a && same_end c.peer peer
+
+-- a connection has a number, a CPort of the application processor or a far end
+abbrev pub has_one_of : ℕ → ℕ → End → Connection → Bool
+has_one_of k a peer c = c.number == k || (c.ap == a || same_end c.peer peer)
+
+-- so has a live connection
+abbrev pub is_taken : ℕ → ℕ → End → List Connection → Bool
+is_taken k a peer cs = list_any (has_one_of k a peer) cs
 
 -- the wired connection that names an end, and the side at which the end stands
 abbrev pub place_at : End → List Connection → Option (ℕ × Side)

@@ -1,6 +1,6 @@
 -- Raw bytes as they wait in a queue.
 use Rattle.std.specs.Prelude.{Result, Ok, Err}
-use Rattle.gb_base.specs.declared.fault.RawFault.{RawFault}
+use Rattle.gb_base.specs.declared.reasons.RawFault.{RawFault}
 use Rattle.gb_bus.specs.declared.queue.Item.{Item}
 use Rattle.gb_bus.specs.declared.queue.Item.TheVariants as code
 use Rattle.gb_formats.specs.Message.{Message}

@@ -1,6 +1,7 @@
 -- The requests of one side of a connection whose identifiers are in use, and what changes them.
 use Rattle.std.specs.Prelude.{◌≡◌, ◌⊎◌, ℕ, ◌==◌, Bool, true, false, not, Option, Some, None}
-use Rattle.std.specs.Prelude.{if◌then◌else◌, option_and_then, Result, Ok, Err, List, ⊤, find}
+use Rattle.std.specs.Prelude.{if◌then◌else◌, is_some, option_and_then, Result, Ok, Err, List, ⊤}
+use Rattle.std.specs.Prelude.{find}
 use Rattle.gb_base.specs.declared.end.End.{End}
 use Rattle.gb_base.specs.declared.end.Side.{Side}
 use Rattle.gb_bus.specs.Parts.{end_at, is_unclean, next_in, numbered, ops_of, put, with_ops}
@@ -51,13 +52,11 @@ abbrev pub OnSide : Connection → Connection → Side → (Operations → Opera
 OnSide old new at R =
     R (ops_of at old) (ops_of at new) × (new ≡ with_ops at (ops_of at new) old)
 
--- By cases on the answer. Nothing is said after want of memory, nor where the number isn't above
--- those of all that are open.
+-- By cases on the answer. After want of memory nothing is said.
 abbrev pub BeginsOn : Connection → Connection → Side → ℕ → ℕ → Result ℕ BeginFault → Type 0
 BeginsOn old new at n deadline (Ok label) = OnSide old new at (λ x y. Begins x y n deadline label)
 BeginsOn old new at n deadline (Err begin.NoLabel) =
     (next_label (ops_of at old) ≡ None) × (new ≡ old)
-BeginsOn old new at n deadline (Err begin.NotAbove) = ⊤
 BeginsOn old new at n deadline (Err (begin.Memory m)) = ⊤
 
 -- The identifier of request n of a side: 0 where it is unidirectional. By cases on the answer.
@@ -68,6 +67,7 @@ LabelsOn old new at n deadline false (Ok label) =
     OnSide old new at (λ x y. Begins x y n deadline label)
 LabelsOn old new at n deadline false (Err send.NoLabel) =
     (next_label (ops_of at old) ≡ None) × (new ≡ old)
+LabelsOn old new at n deadline false (Err send.NoConnection) = ⊥
 LabelsOn old new at n deadline false (Err (send.Memory m)) = ⊤
 
 -- the end at a side of a connection that is wired
@@ -120,11 +120,11 @@ LabelsIn old new k at n deadline true label = (label ≡ 0) × (new ≡ old)
 LabelsIn old new k at n deadline false label =
     ChangesSide old new k at (λ x y. Begins x y n deadline label)
 
--- A request gets no identifier. One that is unidirectional gets none where its
--- connection isn't live.
-abbrev pub IsSpentIn : Bool → ℕ → Side → List Connection → Type 0
-IsSpentIn true k at cs = find (numbered k) cs ≡ None
-IsSpentIn false k at cs = next_in k at cs ≡ None
+-- no identifier is left on a side of a live connection, and the request needs one
+pub record IsSpentIn (cs : List Connection) (k : ℕ) (at : Side) (oneway : Bool) : Type 0 where
+  pub live : is_some (find (numbered k) cs) ≡ true
+  pub needs : oneway ≡ false
+  pub spent : next_in k at cs ≡ None
 
 -- a request has an identifier, and waits toward the other side, or is lost
 pub record Asks (old new : List Connection) (k : ℕ) (at : Side) (n kind : ℕ) (payload : List ℕ)
@@ -137,14 +137,17 @@ pub record Asks (old new : List Connection) (k : ℕ) (at : Side) (n kind : ℕ)
   pub waits : new
       ≡ at_first (numbered k) (put (other_side at) (item.Ask n label kind payload)) begun
 
--- By cases on the answer. After want of memory nothing is said.
+-- By cases on the answer. After want of memory it is said that the connection is live.
 abbrev pub AsksIn : List Connection → List Connection → ℕ → Side → ℕ → ℕ → List ℕ → ℕ → Bool
     → Result (ℕ × Bool) SendFault → Type 0
 AsksIn old new k at n kind payload deadline oneway (Ok a) =
     Asks old new k at n kind payload deadline oneway a.0 a.1
 AsksIn old new k at n kind payload deadline oneway (Err send.NoLabel) =
-    IsSpentIn oneway k at old × (new ≡ old)
-AsksIn old new k at n kind payload deadline oneway (Err (send.Memory m)) = ⊤
+    IsSpentIn old k at oneway × (new ≡ old)
+AsksIn old new k at n kind payload deadline oneway (Err send.NoConnection) =
+    (find (numbered k) old ≡ None) × (new ≡ old)
+AsksIn old new k at n kind payload deadline oneway (Err (send.Memory m)) =
+    is_some (find (numbered k) old) ≡ true
 
 -- a side changes so, or the connection isn't live and nothing changes
 abbrev pub ChangesAs : List Connection → List Connection → ℕ → Side

@@ -17,7 +17,7 @@ use Rattle.gb_table.specs.Table.{item_at}
 
 -- What is kept: slots by key, keys by number, the key of the slot that the next request gets, and
 -- the counts of all requests that were made.
-pub record Kept : Type 0 where
+pub record SlotsKept : Type 0 where
   pub slots : List (Option Slot)
   pub places : List (ℕ × ℕ)
   pub next : ℕ
@@ -28,11 +28,11 @@ abbrev pub under : List (Option Slot) → ℕ → Option Slot
 under slots key = slice_index_or slots key None
 
 -- the key of a request's slot, None where nothing is kept of it
-abbrev pub key_at : Kept → ℕ → Option ℕ
+abbrev pub key_at : SlotsKept → ℕ → Option ℕ
 key_at x n = item_at x.places n
 
 -- what is kept of a request, None where nothing is
-abbrev pub slot_at : Kept → ℕ → Option Slot
+abbrev pub slot_at : SlotsKept → ℕ → Option Slot
 slot_at x n = option_and_then (under x.slots) (key_at x n)
 
 -- ---- one slot
@@ -80,7 +80,7 @@ loses_name slot = while_asked_for (record slot { names = slot.names - 1 })
 -- ---- all slots
 
 -- the slot of one request changes, and no other does
-abbrev pub ChangesAt : ℕ → (Slot → Option Slot) → Kept → Kept → Type 0
+abbrev pub ChangesAt : ℕ → (Slot → Option Slot) → SlotsKept → SlotsKept → Type 0
 ChangesAt n change old new =
     (m : ℕ) → slot_at new m
     ≡ (if m == n then option_and_then change (slot_at old m) else slot_at old m)
@@ -91,30 +91,30 @@ is_open_slot None = false
 is_open_slot (Some slot) = is_none slot.outcome
 
 -- the counts where a request ended so, if it was open
-abbrev pub ended_at : ℕ → Outcome → Kept → Tally
+abbrev pub ended_at : ℕ → Outcome → SlotsKept → Tally
 ended_at n how x = if is_open_slot (slot_at x n) then one_ended how x.tally else x.tally
 
 -- what is kept of one request changes, and the counts are these
-pub record MovesAt (n : ℕ) (change : Slot → Option Slot) (tally : Tally) (old new : Kept) : Type
-    0 where
+pub record MovesAt (n : ℕ) (change : Slot → Option Slot) (tally : Tally)
+    (old new : SlotsKept) : Type 0 where
   pub at : ChangesAt n change old new
   pub tally_is : new.tally ≡ tally
 
 -- an open request is kept, which wasn't, in the slot that came next
-pub record Opens (slot : Slot) (old new : Kept) : Type 0 where
+pub record AddsOpen (slot : Slot) (old new : SlotsKept) : Type 0 where
   pub at : (m : ℕ) → slot_at new m ≡ (if m == slot.number then Some slot else slot_at old m)
   pub placed : key_at new slot.number ≡ Some old.next
   pub tally_is : new.tally ≡ with_one None old.tally
 
 -- a unidirectional request is counted, and nothing is kept of it
-pub record Counts (old new : Kept) : Type 0 where
+pub record Counts (old new : SlotsKept) : Type 0 where
   pub at : (m : ℕ) → slot_at new m ≡ slot_at old m
   pub tally_is : new.tally ≡ with_one (Some outcome.Sent) old.tally
 
 -- a request was made, which may be unidirectional
-abbrev pub MakesAs : Bool → Slot → Kept → Kept → Type 0
+abbrev pub MakesAs : Bool → Slot → SlotsKept → SlotsKept → Type 0
 MakesAs true slot old new = Counts old new
-MakesAs false slot old new = Opens slot old new
+MakesAs false slot old new = AddsOpen slot old new
 
 -- ---- a side is closed
 
@@ -136,13 +136,13 @@ all_disconnected [] tally = tally
 all_disconnected (n ∷ ns) tally = all_disconnected ns (one_ended outcome.Disconnected tally)
 
 -- these are open, and rise
-pub record AreOpen (ns : List ℕ) (x : Kept) : Type 0 where
+pub record AreOpen (ns : List ℕ) (x : SlotsKept) : Type 0 where
   pub rises : Rises ns
   pub each : Each (λ n. is_open_slot (slot_at x n) ≡ true) ns
 
 -- These requests end as disconnected, and the identifiers of those are free. The counts are said
 -- where the first are open, in order.
-pub record Closes (unended late : List ℕ) (old new : Kept) : Type 0 where
+pub record Closes (unended late : List ℕ) (old new : SlotsKept) : Type 0 where
   pub at : (m : ℕ)
       → slot_at new m
       ≡ option_and_then (closes (stands_in m unended) (stands_in m late)) (slot_at old m)

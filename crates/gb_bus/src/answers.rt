@@ -1,10 +1,29 @@
 //! What the calls of the bus answer.
 
 ghost use Rattle.std.specs.Prelude.{◌≡◌};
+ghost use Rattle.gb_bus.specs.declared.answers.AttachFault.TheVariants as attach;
 ghost use Rattle.gb_bus.specs.declared.answers.DeliverFault.TheVariants as deliver;
 ghost use Rattle.gb_bus.specs.declared.answers.SendFault.TheVariants as send;
 
 use gb_base::{Bytes, OutOfMemory, RawFault, Side};
+
+/// Why a connection isn't made. The bus is as before.
+#[derive(Clone, Copy)]
+pub enum AttachFault {
+    /// A live connection has the number, that CPort of the application processor or that of the
+    /// module.
+    Taken,
+    /// No memory was found, or no number is left.
+    Memory(OutOfMemory),
+}
+
+impl From<OutOfMemory> for AttachFault {
+    ghost from_gives = { λ m e. e ≡ attach.Memory m };
+
+    fn from(refused: OutOfMemory) -> AttachFault {
+        AttachFault::Memory(refused)
+    }
+}
 
 /// A request that was made.
 #[derive(Clone, Copy)]
@@ -22,6 +41,8 @@ pub struct Sent {
 pub enum SendFault {
     /// No identifier is left on that side of the connection. The bus is as before.
     NoLabel,
+    /// No live connection has the number. The bus is as before.
+    NoConnection,
     /// No memory was found. Nothing is said of the bus then.
     Memory(OutOfMemory),
 }

@@ -17,13 +17,30 @@ ghost use Rattle.gb_bus.specs.Parts.{
 ghost use Rattle.gb_bus.specs.Seen.{alone};
 ghost use Rattle.gb_bus.specs.Sides.{AsksOn, BeginsOn, HasEndsOf, GivesUpOn, LabelsOn};
 ghost use Rattle.gb_bus.specs.Sides.{MatchesAs, MatchesOn, RespondsOn, is_other, toward};
-ghost use Rattle.gb_bus.specs.Telling.{known_as};
+ghost use Rattle.gb_bus.specs.Overview.{known_as};
 
 use crate::ends::other_side;
 use crate::{Known, SendFault};
 use gb_base::{End, OutOfMemory, Side};
 use gb_ops::{BeginFault, Matched, Ops};
 use std::alloc::Global;
+
+/// A request that a side of a connection is to make.
+#[derive(Clone, Copy)]
+pub struct Draft<'a> {
+    /// The side.
+    pub side: Side,
+    /// Its number.
+    pub number: u64,
+    /// Its type.
+    pub kind: u8,
+    /// Its payload.
+    pub payload: &'a [u8],
+    /// When it times out, in milliseconds.
+    pub deadline: u64,
+    /// It is unidirectional.
+    pub oneway: bool,
+}
 
 /// A connection between a CPort of the application processor and a far end.
 #[derive(Drop)]
@@ -115,27 +132,20 @@ impl Connection {
         }
     }
 
-    /// The identifier of request n of a side, which is open from now on: 0 where it is
-    /// unidirectional. After NoLabel all is as before.
+    /// The identifier of a request, which is open from now on: 0 where it is unidirectional. After
+    /// NoLabel all is as before.
     #[inline]
-    fn label_for(
-        &mut self,
-        side: Side,
-        n: u64,
-        deadline: u64,
-        oneway: bool,
-    ) -> Result<u16, SendFault>
-        ensures labels { LabelsOn (alone 0 self.old) (alone 0 self.new) side n deadline oneway
-            result }
+    fn label_for(&mut self, draft: &Draft<'_>) -> Result<u16, SendFault>
+        ensures labels { LabelsOn (alone 0 self.old) (alone 0 self.new) draft.now.side
+            draft.now.number draft.now.deadline draft.now.oneway result }
         ensures ends { HasEndsOf (alone 0 self.old) (alone 0 self.new) }
     {
-        if oneway {
+        if draft.oneway {
             return Ok(0);
         }
-        match self.begin(side, n, deadline) {
+        match self.begin(draft.side, draft.number, draft.deadline) {
             Ok(label) => Ok(label),
             Err(BeginFault::NoLabel) => Err(SendFault::NoLabel),
-            Err(BeginFault::NotAbove) => Err(SendFault::Memory(OutOfMemory)),
             Err(BeginFault::Memory(refused)) => Err(SendFault::Memory(refused)),
         }
     }
@@ -143,18 +153,13 @@ impl Connection {
     /// The same, with the end toward which the request goes. None stands for it where the
     /// connection isn't wired.
     #[inline]
-    pub fn ask(
-        &mut self,
-        side: Side,
-        n: u64,
-        deadline: u64,
-        oneway: bool,
-    ) -> Result<(u16, Option<End>), SendFault>
-        ensures asked { AsksOn (alone 0 self.old) (alone 0 self.new) side n deadline oneway result }
+    pub fn ask(&mut self, draft: &Draft<'_>) -> Result<(u16, Option<End>), SendFault>
+        ensures asked { AsksOn (alone 0 self.old) (alone 0 self.new) draft.now.side
+            draft.now.number draft.now.deadline draft.now.oneway result }
         ensures ends { HasEndsOf (alone 0 self.old) (alone 0 self.new) }
     {
-        let label = self.label_for(side, n, deadline, oneway)?;
-        Ok((label, self.toward(other_side(side))))
+        let label = self.label_for(draft)?;
+        Ok((label, self.toward(other_side(draft.side))))
     }
 
     /// The end at a side, None where it isn't wired.

@@ -7,20 +7,25 @@ ghost use Rattle.std.specs.Prelude.{
   ◌++◌,
   OnOk,
   IfOk,
+  OnErr,
+  false,
   is_none,
   length,
   map,
   option_copied,
   option_map,
   find,
+  true,
 };
 ghost use Rattle.std.specs.List.{filter, list_any};
+ghost use Rattle.gb_bus.specs.Ends.{is_far};
 ghost use Rattle.gb_machine.specs.Lists.{at_first, without};
-ghost use Rattle.gb_bus.specs.Telling.{known_as, waiting_in};
+ghost use Rattle.gb_bus.specs.Overview.{known_as, waiting_in};
 ghost use Rattle.gb_bus.specs.Parts.{
   cleared,
   closed,
   ends_in,
+  is_taken,
   is_wired_to,
   joins,
   new_connection,
@@ -35,8 +40,7 @@ ghost use Rattle.gb_bus.specs.Parts.{
   with_wire,
 };
 
-use crate::connection::Connection;
-use crate::ends::is_same;
+use crate::connection::{Connection, Draft};
 use crate::queue::{Item, add, add_or_lose, ask_item, count, count_all};
 use crate::{Known, SendFault, Waiting, end_numbers, live};
 use gb_base::{End, Numbers, OutOfMemory, Sequence, Side};
@@ -67,12 +71,12 @@ impl Model for Connections {
 
     ghost Value = { List Connection };
 
-    ghost use Rattle.gb_bus.specs.Index.{Kept};
+    ghost use Rattle.gb_bus.specs.Index.{MapsAgree};
     ghost use Rattle.gb_bus.specs.Seen.{all_seen};
 
     ghost view = { λ c. all_seen c.queues c.live.entries };
 
-    ghost invariant = { λ c. Kept c.live c.ends c.queues };
+    ghost invariant = { λ c. MapsAgree c.live c.ends c.queues };
 }
 
 impl Connections {
@@ -100,8 +104,21 @@ impl Connections {
         }
     }
 
-    /// Adds a connection at the end. Want of memory also comes where its number or one of its ends
-    /// is that of another.
+    /// A live connection has a number, a CPort of the application processor or a far end.
+    pub fn is_taken(&self, number: u64, ap: u16, peer: End) -> bool
+        requires far { is_far peer ≡ true }
+        ensures { result ≡ is_taken number ap peer self.now }
+    {
+        if self.live.contains_key(&number) {
+            return true;
+        }
+        if self.ends.contains_key(&Place::of(End::Ap(ap))) {
+            return true;
+        }
+        self.ends.contains_key(&Place::of(peer))
+    }
+
+    /// Adds a connection at the end. After want of memory all is as before.
     pub fn add(
         &mut self,
         alloc: Global,
@@ -110,11 +127,12 @@ impl Connections {
         peer: End,
         protocol: u8,
     ) -> Result<(), OutOfMemory>
-        ensures { OnOk result (self.new ≡ self.old ++ new_connection number ap peer protocol ∷ []) }
+        requires far { is_far peer ≡ true }
+        requires free { is_taken number ap peer self.old ≡ false }
+        ensures added { OnOk result
+            (self.new ≡ self.old ++ new_connection number ap peer protocol ∷ []) }
+        ensures unchanged { OnErr result (self.new ≡ self.old) }
     {
-        if is_same(End::Ap(ap), peer) || self.live.contains_key(&number) {
-            return Err(OutOfMemory);
-        }
         let near = End::Ap(ap);
         end_numbers::set(&mut self.ends, near, peer, number)?;
         match live::add(&mut self.live, alloc, number, ap, peer, protocol) {
@@ -308,27 +326,23 @@ impl Connections {
 
     /// A request of a side of a connection is open from now on, unless it is unidirectional, and
     /// waits toward the other side. Its identifier is answered, and whether it is lost, since the
-    /// connection isn't wired. NoLabel comes where the connection isn't live too.
-    /// Nothing changes then.
+    /// connection isn't wired. Where it isn't live, and where no identifier is left, nothing
+    /// changes.
     #[inline]
     pub fn ask(
         &mut self,
         alloc: Global,
         k: u64,
-        side: Side,
-        number: u64,
-        kind: u8,
-        payload: &[u8],
-        deadline: u64,
-        oneway: bool,
+        draft: &Draft<'_>,
     ) -> Result<(u16, bool), SendFault>
-        ensures { AsksIn self.old self.new k side number kind payload.now deadline oneway result }
+        ensures { AsksIn self.old self.new k draft.now.side draft.now.number draft.now.kind
+            draft.now.payload.now draft.now.deadline draft.now.oneway result }
     {
-        let (label, end) = live::ask(&mut self.live, k, side, number, deadline, oneway)?;
+        let (label, end) = live::ask(&mut self.live, k, draft)?;
         let Some(end) = end else {
             return Ok((label, true));
         };
-        let item = ask_item(alloc, number, label, kind, payload)?;
+        let item = ask_item(alloc, draft, label)?;
         add(&mut self.queues, end, item)?;
         Ok((label, false))
     }

@@ -20,11 +20,11 @@ impl Bus {
     ghost use Rattle.gb_bus.specs.Delivering.{DeliversAs};
     ghost use Rattle.gb_bus.specs.Moving.{
       AnswersTo,
-      EndsAs,
+      AnswersOpenAs,
       HandlesAs,
       LabelledAs,
       LabelsTo,
-      OpenedAs,
+      EndsOpenAs,
       RawTakesAs,
       RepliesTo,
       TakesAs,
@@ -218,7 +218,7 @@ impl Bus {
         code: u8,
         payload: Bytes,
     ) -> Result<Arrival, DeliverFault>
-        ensures step { OpenedAs self.old self.new number label code payload result }
+        ensures step { EndsOpenAs self.old self.new number label code payload result }
         ensures few { AreFew (shown code payload) → IsOk result }
     {
         match self.open_kind(number) {
@@ -260,7 +260,7 @@ impl Bus {
         code: u8,
         payload: Bytes,
     ) -> Result<Arrival, DeliverFault>
-        ensures step { EndsAs self.old self.new number kind code payload result }
+        ensures step { AnswersOpenAs self.old self.new number kind code payload result }
         ensures few { AreFew (shown code payload) → IsOk result }
     {
         let payload = if code == 0 {

@@ -1,33 +1,34 @@
 //! The numbers of connections by their ends.
 
-ghost use Rattle.std.specs.Prelude.{OnErr, OnOk};
-ghost use Rattle.gb_bus.specs.Index.{GetsNumber, KeepsNumbers, LosesNumber};
+ghost use Rattle.std.specs.Prelude.{◌≡◌, None, OnErr, OnOk};
+ghost use Rattle.gb_bus.specs.Index.{GetsNumber, KeepsNumbers, LosesNumber, number_at};
 
 use gb_base::{End, OutOfMemory};
 use gb_switch::Place;
 use std::collections::HashMap;
 
-/// Two ends get the number of their connection. After want of memory, which also comes where one of
-/// them has a number, all is as before.
+/// Two ends that have no number get that of their connection. After want of memory all is as
+/// before.
 pub fn set(
     ends: &mut HashMap<Place, u64>,
     near: End,
     far: End,
     number: u64,
 ) -> Result<(), OutOfMemory>
+    requires near { number_at ends.old near ≡ None }
+    requires far { number_at ends.old far ≡ None }
     ensures set { OnOk result (GetsNumber ends.old ends.new near far number) }
     ensures unchanged { OnErr result (KeepsNumbers ends.old ends.new) }
 {
     let (one, other) = (Place::of(near), Place::of(far));
-    if ends.contains_key(&one) || ends.contains_key(&other) {
-        return Err(OutOfMemory);
-    }
     ends.insert(one, number)?;
-    if ends.insert(other, number).is_err() {
-        ends.remove(&one);
-        return Err(OutOfMemory);
+    match ends.insert(other, number) {
+        Ok(_) => Ok(()),
+        Err(refused) => {
+            ends.remove(&one);
+            Err(OutOfMemory::from(refused))
+        }
     }
-    Ok(())
 }
 
 /// Two ends have no number any more.

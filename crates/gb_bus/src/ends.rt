@@ -1,9 +1,9 @@
 //! What is decided of ends and sides alone.
 
 ghost use Rattle.std.specs.Prelude.{◌≡◌};
-ghost use Rattle.gb_machine.specs.Bus.{other_side, same_end};
+ghost use Rattle.gb_machine.specs.Bus.{other_side};
 
-use gb_base::{End, Side};
+use gb_base::Side;
 
 /// The other side of a connection.
 #[inline]
@@ -14,11 +14,4 @@ pub fn other_side(side: Side) -> Side
         Side::Ap => Side::Far,
         Side::Far => Side::Ap,
     }
-}
-
-/// Two ends are one.
-pub fn is_same(a: End, b: End) -> bool
-    ensures { result ≡ same_end a b }
-{
-    a == b
 }

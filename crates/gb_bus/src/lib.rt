@@ -12,17 +12,19 @@ mod giving_up;
 mod listing;
 mod live;
 mod naming;
+mod overview;
 mod queue;
 mod raw;
 mod sending;
 mod slots;
 mod tally;
-mod telling;
 mod wiring;
 
-pub use answers::{About, AlreadyEnded, Arrival, Arrived, Asked, DeliverFault, SendFault, Sent};
+pub use answers::{
+    About, AlreadyEnded, Arrival, Arrived, Asked, AttachFault, DeliverFault, SendFault, Sent,
+};
 pub use bus::Bus;
 pub use ends::other_side;
+pub use overview::{Known, Waiting};
 pub use raw::LONGEST_RAW;
 pub use tally::Tally;
-pub use telling::{Known, Waiting};

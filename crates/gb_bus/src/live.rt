@@ -28,7 +28,7 @@ ghost use Rattle.gb_bus.specs.declared.answers.SendFault.TheVariants as fault;
 ghost use Rattle.gb_ops.specs.declared.entries.Matched.TheVariants as matching;
 
 use crate::SendFault;
-use crate::connection::Connection;
+use crate::connection::{Connection, Draft};
 use gb_base::{End, OutOfMemory, Side};
 use gb_ops::Matched;
 use indexmap::IndexMap;
@@ -150,28 +150,25 @@ pub fn shut(live: &mut IndexMap<u64, Connection>, k: u64)
     }
 }
 
-/// The identifier of request n of a side of a connection, which is open from now on, and the end
-/// toward which it goes. NoLabel comes where the connection isn't live too.
+/// The identifier of a request on a connection, which is open from now on, and the end toward which
+/// it goes. NoConnection comes where the connection isn't live.
 #[inline]
 pub fn ask(
     live: &mut IndexMap<u64, Connection>,
     k: u64,
-    side: Side,
-    n: u64,
-    deadline: u64,
-    oneway: bool,
+    draft: &Draft<'_>,
 ) -> Result<(u16, Option<End>), SendFault>
-    ensures there { ChangesBy live.old live.new k
-        (λ x y. AsksOn x y side n deadline oneway result × HasEndsOf x y) }
+    ensures there { ChangesBy live.old live.new k (λ x y. AsksOn x y draft.now.side
+        draft.now.number draft.now.deadline draft.now.oneway result × HasEndsOf x y) }
     ensures nowhere { get nat_eq live.old k ≡ None → Leaves live.old live.new }
-    ensures none { get nat_eq live.old k ≡ None → result ≡ Err fault.NoLabel }
+    ensures none { get nat_eq live.old k ≡ None → result ≡ Err fault.NoConnection }
 {
     let Some(at) = place(live, k) else {
-        return Err(SendFault::NoLabel);
+        return Err(SendFault::NoConnection);
     };
     match live.get_index_mut(at) {
-        Some(connection) => connection.ask(side, n, deadline, oneway),
-        None => Err(SendFault::NoLabel),
+        Some(connection) => connection.ask(draft),
+        None => Err(SendFault::NoConnection),
     }
 }
 

@@ -4,11 +4,11 @@ ghost use Rattle.std.specs.Prelude.{◌≡◌, IfOk, IfSome, IsSome, OnOk, OnErr
 ghost use Rattle.gb_bus.specs.Index.{AddsAt};
 ghost use Rattle.gb_bus.specs.Parts.{queue_of};
 ghost use Rattle.gb_bus.specs.Seen.{items_of, seen};
-ghost use Rattle.gb_bus.specs.Telling.{waiting_at};
+ghost use Rattle.gb_bus.specs.Overview.{waiting_at};
 ghost use Rattle.gb_switch.specs.Queues.{Appends, StaysSame, items_at};
 
 use crate::Waiting;
-use crate::connection::Connection;
+use crate::connection::{Connection, Draft};
 use gb_base::{Bytes, End, OutOfMemory, RawFault, Sequence, Side};
 use gb_switch::Queues;
 use std::alloc::Global;
@@ -67,20 +67,15 @@ pub enum Item {
 
 /// A request as it waits in a queue.
 #[inline]
-pub fn ask_item(
-    alloc: Global,
-    number: u64,
-    label: u16,
-    kind: u8,
-    payload: &[u8],
-) -> Result<Item, OutOfMemory>
-    ensures { IfOk result (λ x. x ≡ Item.Ask number label kind payload.now) }
+pub fn ask_item(alloc: Global, draft: &Draft<'_>, label: u16) -> Result<Item, OutOfMemory>
+    ensures { IfOk result (λ x. x
+        ≡ Item.Ask draft.now.number label draft.now.kind draft.now.payload.now) }
 {
     Ok(Item::Ask {
-        number,
+        number: draft.number,
         label,
-        kind,
-        payload: Bytes::from_slice(alloc, payload)?,
+        kind: draft.kind,
+        payload: Bytes::from_slice(alloc, draft.payload)?,
     })
 }
 
@@ -92,13 +87,8 @@ pub fn add(queues: &mut Queues<Item>, at: End, item: Item) -> Result<(), OutOfMe
     ensures added { OnOk result (Appends (items_at queues.old) (items_at queues.new) at item) }
     ensures unchanged { OnErr result (StaysSame queues.old queues.new) }
 {
-    match queues.push(at, item) {
-        Ok(()) => Ok(()),
-        Err(item) => {
-            drop(item);
-            Err(OutOfMemory)
-        }
-    }
+    queues.push(at, item)?;
+    Ok(())
 }
 
 /// Adds a message to the queue of an end, as `add` does. It is lost too where there is no end.

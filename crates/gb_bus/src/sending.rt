@@ -3,24 +3,24 @@
 ghost use Rattle.std.specs.Prelude.{◌≡◌, Some, false, IfOk, OnOk, IsErrOf};
 ghost use Rattle.gb_machine.specs.Bus as machine;
 ghost use Rattle.gb_machine.specs.Sending.{draft};
-ghost use Rattle.gb_bus.specs.Slots.{key_at};
 ghost use Rattle.gb_bus.specs.Taking.{reply_item};
 
+use crate::connection::Draft;
 use crate::ends::other_side;
 use crate::queue::Item;
 use crate::slots::Slot;
 use crate::{Asked, Bus, SendFault, Sent};
-use gb_base::{Bytes, OutOfMemory, Side};
+use gb_base::{Bytes, OutOfMemory, Side, sum};
 
 impl Bus {
     ghost use Rattle.gb_bus.specs.Delivering.{RepliesAs};
-    ghost use Rattle.gb_bus.specs.Sending.{SendsAs};
+    ghost use Rattle.gb_bus.specs.Sending.{MadeWhere, SendsAs, next_slot, slot_on};
     ghost use Rattle.gb_bus.specs.Stands.{Around, Stands};
 
     /// Makes a request on connection k. `deadline` is in milliseconds. A unidirectional request has
-    /// identifier 0, and has ended as sent at once. NoLabel comes where the connection isn't live,
-    /// and for another request where all identifiers of the side are in use. After want of memory
-    /// nothing is said. It also comes where no number is left.
+    /// identifier 0, and has ended as sent at once. NoConnection comes where the connection isn't
+    /// live, and NoLabel for another request where all identifiers of the side are in use. After
+    /// want of memory nothing is said. It also comes where no number is left.
     pub fn send(
         &mut self,
         k: u64,
@@ -32,17 +32,22 @@ impl Bus {
     ) -> Result<Sent, SendFault>
         ensures step { (around : Around) (b : machine.Bus) → Stands around self.old b
             → SendsAs around self.new (draft k side kind payload.now deadline oneway) b result }
+        ensures live { MadeWhere self.old k side oneway result }
         ensures unchanged { IsErrOf result SendFault.NoLabel → self.new ≡ self.old }
+        ensures still { IsErrOf result SendFault.NoConnection → self.new ≡ self.old }
         ensures placed { IfOk result (λ made. oneway ≡ false
-            → key_at self.new.slots made.number ≡ Some self.old.slots.next) }
+            → slot_on self.new made.number ≡ Some (next_slot self.old)) }
     {
-        let Some(number) = self.slots.count().checked_add(1) else {
-            return Err(SendFault::Memory(OutOfMemory));
+        let number = sum(self.slots.count(), 1)?;
+        let draft = Draft {
+            side,
+            number,
+            kind,
+            payload,
+            deadline,
+            oneway,
         };
-        let alloc = self.alloc;
-        let (label, lost) = self
-            .connections
-            .ask(alloc, k, side, number, kind, payload, deadline, oneway)?;
+        let (label, lost) = self.connections.ask(self.alloc, k, &draft)?;
         let slot = Slot {
             number,
             connection: k,

@@ -21,7 +21,7 @@ ghost use Rattle.gb_bus.specs.Slots.{
   Closes,
   MakesAs,
   MovesAt,
-  Opens,
+  AddsOpen,
   ended_at,
   ends_so,
   forgets,
@@ -110,9 +110,9 @@ pub struct Slots {
 
 impl Model for Slots {
     ghost use Rattle.gb_bus.specs.Keeping.{IsKept, kept_in};
-    ghost use Rattle.gb_bus.specs.Slots.{Kept};
+    ghost use Rattle.gb_bus.specs.Slots.{SlotsKept};
 
-    ghost Value = { Kept };
+    ghost Value = { SlotsKept };
 
     ghost view = { λ x. kept_in x.slots x.places x.tally };
 
@@ -179,16 +179,16 @@ impl Slots {
         requires number { slot.number ≡ self.old.tally.requests + 1 }
         requires unended { slot.outcome ≡ None }
         requires awaited { slot.awaited ≡ true }
-        ensures { OnOk result (Opens slot self.old self.new) }
+        ensures { OnOk result (AddsOpen slot self.old self.new) }
     {
         let number = slot.number;
         let deadline = slot.deadline;
         self.slots.reserve(1)?;
         self.deadlines.insert(Reverse((deadline, number)))?;
         let key = self.slots.vacant_key();
-        if self.places.put(number, key).is_err() {
+        if let Err(refused) = self.places.put(number, key) {
             self.deadlines.remove(&Reverse((deadline, number)));
-            return Err(OutOfMemory);
+            return Err(refused);
         }
         self.slots.insert_reserved(slot);
         self.tally.add(&None);

@@ -3,7 +3,7 @@
 ghost use Rattle.std.specs.Prelude.{◌≡◌, ◌≢◌, ℕ, ◌<◌, ◌≤◌, Some};
 ghost use Rattle.gb_machine.specs.Bus as machine;
 ghost use Rattle.gb_bus.specs.Counting.{Tells, counted_once, no_requests, one_ended, with_one};
-ghost use Rattle.gb_bus.specs.Slots.{key_at};
+ghost use Rattle.gb_bus.specs.Sending.{next_slot, slot_on};
 
 use crate::Bus;
 use gb_base::Outcome;
@@ -92,8 +92,8 @@ impl Bus {
     /// The key of the slot that the next request gets. A slot is used again once nothing asks for
     /// its request.
     pub fn next_slot(&self) -> usize
-        ensures next { result ≡ self.now.slots.next }
-        ensures free { (n : ℕ) → key_at self.now.slots n ≢ Some result }
+        ensures next { result ≡ next_slot self.now }
+        ensures free { (n : ℕ) → slot_on self.now n ≢ Some result }
     {
         self.slots.next_key()
     }

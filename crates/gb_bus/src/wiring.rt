@@ -1,6 +1,7 @@
 //! The bus: which connections there are, and what waits on them.
 
-ghost use Rattle.std.specs.Prelude.{◌≡◌, ◌||◌, IfOk, OnOk, OnErr, option_map, is_none};
+ghost use Rattle.std.specs.Prelude.{◌≡◌, ◌||◌, ◌++◌, []};
+ghost use Rattle.std.specs.Prelude.{IfOk, IsOk, OnOk, OnErr, option_map, is_none};
 ghost use Rattle.std.specs.List.{list_any};
 ghost use Rattle.gb_base.specs.declared.end.Side.TheVariants as side;
 ghost use Rattle.gb_machine.specs.Bus as machine;
@@ -19,8 +20,8 @@ ghost use Rattle.gb_machine.specs.Wiring.{
   wired,
 };
 
-use crate::Bus;
-use gb_base::{End, Numbers, OutOfMemory, Side};
+use crate::{AttachFault, Bus};
+use gb_base::{End, Numbers, OutOfMemory, Side, sum};
 
 impl Bus {
     ghost use Rattle.gb_bus.specs.Listing.{AreThose};
@@ -29,7 +30,9 @@ impl Bus {
     ghost use Rattle.gb_bus.specs.Wiring.{
       AttachesAs,
       EndsAs,
+      IsQuiet,
       MayAttach,
+      TakenAs,
       count_at,
       elsewhere,
       ends_of,
@@ -37,24 +40,27 @@ impl Bus {
     };
 
     /// Makes a connection of a CPort of the application processor with a module's CPort, and
-    /// answers its number. It isn't wired. Where a live connection has that CPort of the
-    /// application processor or that of the module, and after want of memory, nothing is said. Want
-    /// of memory also comes where no number is left.
+    /// answers its number. It isn't wired. Taken comes exactly where a live connection has the
+    /// number, that CPort of the application processor or that of the module. After a refusal the
+    /// bus is as before. Want of memory also comes where no number is left.
     pub fn attach(
         &mut self,
         ap: u16,
         intf: u8,
         cport: u16,
         protocol: u8,
-    ) -> Result<u64, OutOfMemory>
+    ) -> Result<u64, AttachFault>
         ensures step { (around : Around) (b : machine.Bus) → Stands around self.old b
             → MayAttach ap intf cport b
             → AttachesAs around self.new ap intf cport protocol b result }
+        ensures taken { TakenAs self.old ap intf cport result }
+        ensures unchanged { OnErr result (self.new ≡ self.old) }
     {
-        let Some(number) = self.made.checked_add(1) else {
-            return Err(OutOfMemory);
-        };
+        let number = sum(self.made, 1)?;
         let peer = End::Module { intf, cport };
+        if self.connections.is_taken(number, ap, peer) {
+            return Err(AttachFault::Taken);
+        }
         self.connections
             .add(self.alloc, number, ap, peer, protocol)?;
         self.made = number;
@@ -73,15 +79,18 @@ impl Bus {
     /// A connection isn't wired any more: what waited in its queues is lost, and what was taken
     /// from them can't be answered any more. The open requests of its far side end as
     /// disconnected. Their numbers stand in `ended` after those that stood there, in order. After
-    /// want of memory the bus and `ended` are as before.
+    /// want of memory the bus and `ended` are as before. It takes no memory where the connection is
+    /// live and no request of its far side is awaited.
     pub fn unwire(&mut self, k: u64, ended: &mut Numbers) -> Result<(), OutOfMemory>
         ensures step { OnOk result ((around : Around) (b : machine.Bus) → Stands around self.old b
             → EndsAs (elsewhere k around) self.new k side.Far b (unwired k b) ended.old ended.new) }
+        ensures few { (around : Around) (b : machine.Bus) → Stands around self.old b
+            → IsQuiet k side.Far b → IsOk result }
         ensures unchanged { OnErr result ((self.new ≡ self.old) × (ended.new ≡ ended.old)) }
     {
         let unended = self.unended(k, Side::Far)?;
         let late = self.late(k, Side::Far)?;
-        ended.extend(unended.items())?;
+        note(ended, &unended)?;
         self.connections.unwire(k);
         self.slots.close(unended.items(), late.items());
         Ok(())
@@ -89,15 +98,18 @@ impl Bus {
 
     /// The application processor's side of a connection is closed: its open requests end as
     /// disconnected. Their numbers stand in `ended` after those that stood there, in order. After
-    /// want of memory the bus and `ended` are as before.
+    /// want of memory the bus and `ended` are as before. It takes no memory where the connection is
+    /// live and no request of that side is awaited.
     pub fn shut(&mut self, k: u64, ended: &mut Numbers) -> Result<(), OutOfMemory>
         ensures step { OnOk result ((around : Around) (b : machine.Bus) → Stands around self.old b
             → EndsAs around self.new k side.Ap b (shut_down k b) ended.old ended.new) }
+        ensures few { (around : Around) (b : machine.Bus) → Stands around self.old b
+            → IsQuiet k side.Ap b → IsOk result }
         ensures unchanged { OnErr result ((self.new ≡ self.old) × (ended.new ≡ ended.old)) }
     {
         let unended = self.unended(k, Side::Ap)?;
         let late = self.late(k, Side::Ap)?;
-        ended.extend(unended.items())?;
+        note(ended, &unended)?;
         self.connections.shut(k);
         self.slots.close(unended.items(), late.items());
         Ok(())
@@ -118,9 +130,11 @@ impl Bus {
     /// The open requests of a side of a connection, in order of number. Where it isn't live they
     /// are looked for among all that are kept.
     fn unended(&self, k: u64, side: Side) -> Result<Numbers, OutOfMemory>
-        ensures { IfOk result (λ ns. (around : Around) (b : machine.Bus)
+        ensures lists { IfOk result (λ ns. (around : Around) (b : machine.Bus)
             → Stands around self.now b
             → AreThose (λ n. is_open_on k side (slot_at self.now.slots n)) ns) }
+        ensures few { (around : Around) (b : machine.Bus) → Stands around self.now b
+            → IsQuiet k side b → IsOk result }
     {
         match self.connections.ops(k, side) {
             Some(ops) => ops.unended(self.alloc),
@@ -131,9 +145,11 @@ impl Bus {
     /// The requests of a side of a connection that were given up and not answered yet, in order of
     /// number. Where it isn't live they are looked for among all that are kept.
     fn late(&self, k: u64, side: Side) -> Result<Numbers, OutOfMemory>
-        ensures { IfOk result (λ ns. (around : Around) (b : machine.Bus)
+        ensures lists { IfOk result (λ ns. (around : Around) (b : machine.Bus)
             → Stands around self.now b
             → AreThose (λ n. is_late_on k side (slot_at self.now.slots n)) ns) }
+        ensures few { (around : Around) (b : machine.Bus) → Stands around self.now b
+            → IsQuiet k side b → IsOk result }
     {
         match self.connections.ops(k, side) {
             Some(ops) => ops.late(self.alloc),
@@ -227,4 +243,17 @@ impl Bus {
     {
         self.connections.is_spent(k, side)
     }
+}
+
+/// Numbers stand behind others. After want of memory all is as before.
+fn note(ended: &mut Numbers, unended: &Numbers) -> Result<(), OutOfMemory>
+    ensures noted { OnOk result (ended.new ≡ ended.old ++ unended.now) }
+    ensures unchanged { OnErr result (ended.new ≡ ended.old) }
+    ensures few { unended.now ≡ [] → IsOk result }
+{
+    if unended.items().is_empty() {
+        return Ok(());
+    }
+    ended.extend(unended.items())?;
+    Ok(())
 }

@@ -9,9 +9,9 @@ use Rattle.std.specs.List.{cons_option}
 use Rattle.std.proofs.lemmas.List.{reverse-append, take_all}
 use Rattle.std.proofs.lemmas.Bool.Decides.{nat_tests}
 use Rattle.gb_base.specs.declared.audit.Finding.{Finding}
-use Rattle.gb_base.specs.declared.fault.CaptureFault.{CaptureFault}
-use Rattle.gb_base.specs.declared.fault.CaptureFault.TheVariants as capture
-use Rattle.gb_base.specs.declared.fault.LineReason.TheVariants as bad
+use Rattle.gb_base.specs.declared.reasons.CaptureFault.{CaptureFault}
+use Rattle.gb_base.specs.declared.reasons.CaptureFault.TheVariants as capture
+use Rattle.gb_base.specs.declared.reasons.LineReason.TheVariants as bad
 use Rattle.gb_capture.specs.Audits.{heard_at}
 use Rattle.gb_capture.proofs.Rules.{each-append}
 use Rattle.gb_formats.specs.Audit.{Found, at_line, each_after, findings, found_of}
@@ -23,7 +23,7 @@ use Rattle.gb_formats.specs.Captures.{heard, heard_by, heard_from, held_by}
 use Rattle.gb_formats.specs.Message.{Message}
 use Rattle.gb_formats.specs.Script.{bad_place, unless_bad}
 use Rattle.gb_formats.specs.Words.{words}
-use Rattle.gb_script.specs.Fronts.{is_long_text}
+use Rattle.gb_script.specs.LineBuffers.{is_long_text}
 
 -- ---- lines behind good ones
 

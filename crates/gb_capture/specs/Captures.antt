@@ -1,6 +1,6 @@
 -- What a read line of a capture is, as values of the code.
 use Rattle.std.specs.Prelude.{Bool, Option, Some, None, Result, Ok, Err}
-use Rattle.gb_base.specs.declared.fault.CaptureFault.{CaptureFault}
+use Rattle.gb_base.specs.declared.reasons.CaptureFault.{CaptureFault}
 use Rattle.gb_formats.specs.Captures.{Captured}
 use Rattle.gb_wire.specs.MessageOf.{message_of}
 use Rattle.gb_wire.specs.declared.message.Message.{Message}

@@ -23,7 +23,7 @@ use Rattle.gb_desk.specs.Slots.{IsEnded, new_slot, slot_at}
 use Rattle.gb_desk.specs.Steps.{ArePlaces, Gives, Knows, Took, gave, mine_after, opening}
 use Rattle.gb_desk.specs.Steps.{taking}
 use Rattle.gb_desk.specs.Tickets.{HasTicket, ticket}
-use Rattle.gb_desk.specs.Turns.{Enters, IsPassSpent, IsReady, with_new}
+use Rattle.gb_desk.specs.Turns.{Enters, IsPassSpent, IsReady, with_new, is_broken}
 use Rattle.gb_desk.specs.declared.fault.DeskFault.{DeskFault}
 use Rattle.gb_desk.specs.declared.fault.DeskFault.TheVariants as fault
 use Rattle.gb_desk.specs.declared.stored.Stored.{Stored}
@@ -169,7 +169,7 @@ module _ (v : View) (x : Stored) (first : System) (by : ℕ) (e : Event) (valid 
             (sound_plain first x y by e o.entries valid (asks_none by e o.entries is) st.sound n)
             n refl refl places
             (λ untold_. (
-            let same : y.broken ≡ v.told = n.after ∙ sym untold_ in
+            let same : is_broken y ≡ v.told = n.after ∙ sym untold_ in
             λ i. record w {
               told = same i;
               clear = sym st.clear i;
@@ -203,7 +203,7 @@ module _ (v : View) (x : Stored) (first : System) (by : ℕ) (e : Event) (valid 
             (length y.journal) (length y.journal) refl)
             places
             (λ untold_. (
-            let same : y.broken ≡ v.told = n.after ∙ sym untold_ in
+            let same : is_broken y ≡ v.told = n.after ∙ sym untold_ in
             λ i. record w {
               told = same i;
               clear = sym st.clear i;

@@ -1,6 +1,7 @@
 -- What a call in its turn does to the history and to its pass.
 use Rattle.std.proofs.Common.{◌≡◌, ℕ, ◌+◌, ◌<◌, ◌≤◌, true, false, List, [], ◌∷◌}
 use Rattle.std.proofs.Common.{length, refl, sym, ap, ◌∙◌, subst, arith, Option, Some, None}
+use Rattle.std.proofs.Common.{is_some}
 use Rattle.std.specs.Prelude.{Result, Ok, Err}
 use mathlib.Core.List.{IsPrefix}
 use mathlib.Core.Option as core
@@ -15,7 +16,8 @@ use Rattle.gb_desk.specs.Calls.{CallsAs, Entered, IsFree, IsLegalFrom, SawSpent}
 use Rattle.gb_desk.specs.Calls.{WasTold}
 use Rattle.gb_desk.specs.Rules.{Kept, Sound}
 use Rattle.gb_desk.specs.Steps.{ArePlaces, Gives, Knows, Took, gave, mine_after, taking}
-use Rattle.gb_desk.specs.Turns.{Breaks, Enters, IsSpent, TurnsAs}
+use Rattle.gb_base.specs.declared.errors.OutOfMemory.{OutOfMemory}
+use Rattle.gb_desk.specs.Turns.{Breaks, Enters, IsSpent, TurnsAs, is_broken}
 use Rattle.gb_desk.specs.declared.fault.DeskFault.{DeskFault}
 use Rattle.gb_desk.specs.declared.fault.DeskFault.TheVariants as fault
 use Rattle.gb_desk.specs.declared.slots.Slot.{Slot}
@@ -118,14 +120,14 @@ pub of_taken : (first : System) (v : View) (P : ℕ → Type 0) (xs : List Journ
 of_taken first v P xs is holds x is_x =
     let same : first ≡ x = cc (is, is_x) in subst (λ z. P (taken_of z + length xs)) same holds
 
-pub untold : (v : View) (x : Stored) → (v.told ≡ true → x.broken ≡ true) → x.broken ≡ false
+pub untold : (v : View) (x : Stored) → (v.told ≡ true → is_broken x ≡ true) → is_broken x ≡ false
     → v.told ≡ false
 untold v x told whole = not_told v.told (λ is. cc (told is, whole))
 
 -- An event stands at the end of the history, also where a slot was given to its request.
 abbrev pub entered : (first : System) (v w : View) (x y : Stored) (by : ℕ) (e : Event)
     (entries : List Entry) (slots : List (Option Slot)) → v.first ≡ Some first
-    → w.first ≡ v.first → IsPrefix v.seen x.journal → (v.told ≡ true → x.broken ≡ true)
+    → w.first ≡ v.first → IsPrefix v.seen x.journal → (v.told ≡ true → is_broken x ≡ true)
     → Sound first (record y { slots = slots }) → Enters x by e entries y
     → w.seen ≡ y.journal → w.mine ≡ mine_after v.mine (length x.journal) (length y.journal)
     → ArePlaces w
@@ -159,7 +161,7 @@ entered first v w x y by e entries slots is same seen told k n saw mine places r
 
 -- what a pass that changed nothing in its turn knows, but for what it has read
 pub same_else : (v : View) (x : Stored) (used : List ℕ) (clear : Option ℕ) → v.out ≡ None
-    → v.clear ≡ None → x.broken ≡ v.told
+    → v.clear ≡ None → is_broken x ≡ v.told
     → gave (record v { out = Some x; used = used; clear = clear }) x x
     ≡ record v { seen = x.journal; used = used }
 same_else v x used clear out unclear told =
@@ -173,7 +175,7 @@ same_else v x used clear out unclear told =
 
 -- the history was seen, which is as long as it can get
 pub saw_first : (v u : View) (x : Stored) (first : System) → v.out ≡ None → v.clear ≡ None
-    → v.first ≡ Some first → IsPrefix v.seen x.journal → (v.told ≡ true → x.broken ≡ true)
+    → v.first ≡ Some first → IsPrefix v.seen x.journal → (v.told ≡ true → is_broken x ≡ true)
     → Sound first x → IsSpent x → u ≡ taking v x → SawSpent v (gave u x x)
 saw_first v u x first out unclear is seen told k n taken =
     let none = untold v x told n.whole in
@@ -188,18 +190,19 @@ saw_first v u x first out unclear is seen told k n taken =
 
 -- no memory was found
 pub told_then : (first : System) (v : View) (x y : Stored) (used : List ℕ) (clear : Option ℕ)
+    {refused : OutOfMemory}
     → v.out ≡ None → v.clear ≡ None → v.first ≡ Some first → IsPrefix v.seen x.journal
-    → Sound first y → Breaks x y
+    → Sound first y → Breaks x refused y
     → WasTold v (gave (record v { out = Some x; used = used; clear = clear }) x y)
 told_then first v x y used clear out unclear is seen k n =
     let mine = mine_same v.mine (length x.journal) (length y.journal) (ap length n.journal) in
     record {
       seen = subst (IsPrefix v.seen) (sym n.journal) seen;
       legal = legal_from first y v is k;
-      taken = of_taken first v (λ m. m < 4294967295) y.journal is (k.room n.after);
+      taken = of_taken first v (λ m. m < 4294967295) y.journal is (k.room (ap is_some n.after));
       rest = λ i. record (gave (record v { out = Some x; used = used; clear = clear }) x y) {
         mine = mine i;
-        told = n.after i;
+        told = ap is_some n.after i;
         clear = sym unclear i;
         out = sym out i;
       };
@@ -207,14 +210,14 @@ told_then first v x y used clear out unclear is seen k n =
 
 entered_plain : (first : System) (v : View) (x y : Stored) (by : ℕ) (e : Event)
     (entries : List Entry) → v.out ≡ None → v.clear ≡ None → v.first ≡ Some first
-    → IsPrefix v.seen x.journal → (v.told ≡ true → x.broken ≡ true) → Sound first y
+    → IsPrefix v.seen x.journal → (v.told ≡ true → is_broken x ≡ true) → Sound first y
     → Enters x by e entries y → ArePlaces (gave (taking v x) x y)
     → Entered v by e entries (gave (taking v x) x y)
 entered_plain first v x y by e entries out unclear is seen told k n places =
     entered first v (gave (taking v x) x y) x y by e entries y.slots is refl seen told k n refl refl
     places
     (λ none. (
-    let same : y.broken ≡ v.told = n.after ∙ sym none in
+    let same : is_broken y ≡ v.told = n.after ∙ sym none in
     λ i. record (gave (taking v x) x y) {
       told = same i;
       clear = sym unclear i;
@@ -222,21 +225,22 @@ entered_plain first v x y by e entries out unclear is seen told k n places =
     }))
 
 saw_spent : (first : System) (v : View) (x y : Stored) → v.out ≡ None → v.clear ≡ None
-    → v.first ≡ Some first → IsPrefix v.seen x.journal → (v.told ≡ true → x.broken ≡ true)
+    → v.first ≡ Some first → IsPrefix v.seen x.journal → (v.told ≡ true → is_broken x ≡ true)
     → Sound first x → IsSpent x → y ≡ x → SawSpent v (gave (taking v x) x y)
 saw_spent first v x y out unclear is seen told k n same =
     subst (λ z. SawSpent v (gave (taking v x) x z)) (sym same)
     (saw_first v (taking v x) x first out unclear is seen told k n refl)
 
-was_told : (first : System) (v : View) (x y : Stored) → v.out ≡ None → v.clear ≡ None
-    → v.first ≡ Some first → IsPrefix v.seen x.journal → Sound first y → Breaks x y
+was_told : (first : System) (v : View) (x y : Stored) {refused : OutOfMemory} → v.out ≡ None
+    → v.clear ≡ None → v.first ≡ Some first → IsPrefix v.seen x.journal → Sound first y
+    → Breaks x refused y
     → WasTold v (gave (taking v x) x y)
 was_told first v x y out unclear is seen k n =
     told_then first v x y [] v.clear out unclear is seen k n
 
 calls_gave : (first : System) (v : View) (x y : Stored) (by : ℕ) (e : Event)
     (r : Result (List Entry) DeskFault) → v.out ≡ None → v.clear ≡ None → v.first ≡ Some first
-    → IsPrefix v.seen x.journal → (v.told ≡ true → x.broken ≡ true) → Sound first x
+    → IsPrefix v.seen x.journal → (v.told ≡ true → is_broken x ≡ true) → Sound first x
     → Sound first y → TurnsAs x by e r y → ArePlaces (gave (taking v x) x y)
     → CallsAs v by e r (gave (taking v x) x y)
 calls_gave first v x y by e (Ok entries) out unclear is seen told was k n places =
@@ -286,7 +290,7 @@ called l v me me' x y by e r free valid plain t is turn gives =
     subst (λ (m : Knows). CallsAs v by e r m.0) (sym gave'.0)
     (calls_gave t.first v x y by e r free.out free.clear t.is_first
     (subst (λ z. IsPrefix v.seen z.journal) same t.seen)
-    (λ told. ap (λ z. z.broken) (sym same) ∙ t.told told)
+    (λ told. ap is_broken (sym same) ∙ t.told told)
     sound now.0 turn places)
 
 -- a call changes no parts

@@ -15,6 +15,7 @@ use Rattle.gb_desk.specs.declared.stored.Stored.{Stored}
 use Rattle.gb_desk.specs.declared.view.View.{View}
 use Rattle.gb_system.specs.Stands.{Stands, taken_of}
 use Rattle.gb_system.specs.declared.system.System.{System}
+use Rattle.gb_desk.specs.Turns.{is_broken}
 
 -- what is left is what is shared
 left_is : (first : System) (s : State Stored View) (id : ℕ) (v : View) (xs : List Stored)
@@ -36,12 +37,12 @@ left_is first s id v xs z k at all out left is =
 -- where the one pass wasn't told of want of memory, there was none
 not_broken : (first : System) (s : State Stored View) (id : ℕ) (v : View) (k : Kept first s)
     → get_elem? s.views id ≡ core.some v → v.parts ≡ all_parts → v.told ≡ false
-    → k.current.broken ≡ false
+    → is_broken k.current ≡ false
 not_broken first s id v k at all untold =
     let sum = total_alone told_in s.views id v refl at (k.parts ∙ sym all)
     (λ j u there. (k.each j u there).idle) in
     let none : told_in v ≡ 0 = ap one_if untold in
-    not_told k.current.broken (λ broken. (let some_one = k.told broken in omega arith))
+    not_told (is_broken k.current) (λ broken. (let some_one = k.told broken in omega arith))
 
 closes_at : (first : System) (s : State Stored View) (id : ℕ) (v : View) (k : Kept first s)
     → get_elem? s.views id ≡ core.some v → v.parts ≡ all_parts

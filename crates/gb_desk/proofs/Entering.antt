@@ -1,7 +1,7 @@
 -- What an event leaves of what is shared.
 use Rattle.std.proofs.Common.{◌≡◌, ℕ, ◌+◌, ◌<◌, inl, inr, Bool, true, false, List, [], ◌∷◌}
 use Rattle.std.proofs.Common.{◌++◌, length, length-append, refl, sym, ap, ◌∙◌, subst, arith}
-use Rattle.std.proofs.Common.{append-nil, Option, Some, None}
+use Rattle.std.proofs.Common.{append-nil, Option, Some, None, is_some}
 use Rattle.std.specs.Prelude.{if◌then◌else◌, option_map, slice_set}
 use Rattle.gb_base.specs.declared.entry.Entry.{Entry}
 use Rattle.gb_base.specs.declared.event.Event.{Event}
@@ -14,7 +14,8 @@ use Rattle.gb_desk.proofs.Turning.{Follows}
 use Rattle.gb_desk.specs.Rules.{FollowsFrom, IsOfSlot, Sound}
 use Rattle.gb_desk.specs.Slots.{IsEnded, SlotsStand, all_noted, listed, new_slot, noted, request_in}
 use Rattle.gb_desk.specs.Slots.{requests_in, slot_at}
-use Rattle.gb_desk.specs.Turns.{Breaks, Done, Enters, entry_of, with_new}
+use Rattle.gb_base.specs.declared.errors.OutOfMemory.{OutOfMemory}
+use Rattle.gb_desk.specs.Turns.{Breaks, Done, Enters, entry_of, with_new, is_broken}
 use Rattle.gb_desk.specs.declared.slots.Slot.{Slot}
 use Rattle.gb_desk.specs.declared.stored.Stored.{Stored}
 use Rattle.gb_desk.specs.declared.ticket.Ticket.{Ticket}
@@ -53,7 +54,7 @@ stand_as t u made also slots same a b c h =
 -- ---- an event
 
 module _ (s : machine.State) (x y : Stored) (tag : ℕ) (e : Event) (entries : List Entry)
-    (valid : IsValid e) (whole : x.broken ≡ false) (d : Done x tag e entries y)
+    (valid : IsValid e) (whole : is_broken x ≡ false) (d : Done x tag e entries y)
     (f : FollowsFrom s x) where
   abbrev before : machine.State
   before = after s (events_of x.journal)
@@ -206,7 +207,8 @@ broken_room : (b : Bool) (P : Type 0) → (b ≡ true → P) → (b ≡ false �
 broken_room true P f g = f refl
 broken_room false P f g = g refl
 
-pub sound_broken : (first : System) (x y : Stored) → Sound first x → Breaks x y → Sound first y
+pub sound_broken : (first : System) (x y : Stored) {refused : OutOfMemory} → Sound first x
+    → Breaks x refused y → Sound first y
 sound_broken first x y k b = record {
   follows = λ s stands. (
       let f = k.follows s stands in
@@ -217,13 +219,13 @@ sound_broken first x y k b = record {
         slots = stand_as (after s (events_of x.journal)) (after s (events_of y.journal))
             (requests_in x.journal) (requests_in y.journal) x.slots y.slots state
             (ap requests_in b.journal) b.slots f.slots;
-        stands = λ whole. absurd (cc (b.after, whole));
+        stands = λ whole. absurd (cc (ap is_some b.after, whole));
       });
   long = ap length b.slots ∙ k.long;
-  taken = λ whole. absurd (cc (b.after, whole));
+  taken = λ whole. absurd (cc (ap is_some b.after, whole));
   room = λ _. (
       let long = ap length b.journal in
-      broken_room x.broken (taken_of first + length y.journal < 4294967295)
+      broken_room (is_broken x) (taken_of first + length y.journal < 4294967295)
       (λ is. (let was = k.room is in omega arith))
       (λ is. (let was = k.taken is in let now = b.room is in omega arith)));
 }
@@ -272,9 +274,10 @@ follows_new x y by e entries at m n =
           });
     }
 
-pub follows_broken : (x y : Stored) (but : ℕ) → Breaks x y → Follows x y but
+pub follows_broken : (x y : Stored) (but : ℕ) {refused : OutOfMemory} → Breaks x refused y
+    → Follows x y but
 follows_broken x y but b = record {
   journal = inl b.journal;
-  broken = λ _. b.after;
+  broken = λ _. ap is_some b.after;
   tickets = λ t apart of. subst (λ ss. IsOfSlot ss t) (sym b.slots) of;
 }

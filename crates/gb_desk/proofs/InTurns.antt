@@ -16,7 +16,8 @@ use Rattle.gb_desk.specs.Rules.{Kept, Sound}
 use Rattle.gb_desk.specs.Slots.{IsEnded, new_slot, slot_at}
 use Rattle.gb_desk.specs.Steps.{Knows, Opens, opening}
 use Rattle.gb_desk.specs.Tickets.{ticket}
-use Rattle.gb_desk.specs.Turns.{Asked, AsksAs, BarsAs, Breaks, IsReady, with_new}
+use Rattle.gb_base.specs.declared.errors.OutOfMemory.{OutOfMemory}
+use Rattle.gb_desk.specs.Turns.{Asked, AsksAs, BarsAs, Breaks, IsReady, with_new, is_broken}
 use Rattle.gb_desk.specs.declared.fault.DeskFault.{DeskFault}
 use Rattle.gb_desk.specs.declared.fault.DeskFault.TheVariants as fault
 use Rattle.gb_desk.specs.declared.stored.Stored.{Stored}
@@ -52,19 +53,20 @@ started_held me h = subst (λ (m : Knows). m.1 ≡ (0, h.shared) ∷ rest m.1) (
 
 -- ---- what keeps it from the event
 
-broken_still : (x : Stored) → x.broken ≡ true → Breaks x x
-broken_still x is = record {
+broken_still : (x : Stored) (refused : OutOfMemory) → x.broken ≡ Some refused
+    → Breaks x refused x
+broken_still x refused is = record {
   journal = refl;
   slots = refl;
   after = is;
-  room = λ whole. absurd (cc (is, whole));
+  room = λ whole. absurd (cc (ap is_some is, whole));
 }
 
 barred_at : (v : View) (x : Stored) (spent : Bool) (by : ℕ) (e : Event) (f : DeskFault)
     → BarsAs x spent (Some f) → OpensAs v x spent by e (Err f) (v, (0, x) ∷ [])
 barred_at v x spent by e (fault.Memory refused) bars = record {
   after = x;
-  breaks = broken_still x bars;
+  breaks = broken_still x refused bars;
   used = v.used;
   clear = v.clear;
   me = refl;
@@ -120,11 +122,13 @@ changed_held : (v : View) (x y z : Stored) (i : ℕ) (me : Knows) (f : Found v x
     (record v { used = f.used; clear = Some i }, (0, z) ∷ [])
 changed_held v x y z i me f = ap (λ (m : Knows). (m.0, (0, z) ∷ rest m.1)) f.me
 
-pub broke : (v : View) (x y z : Stored) (i : ℕ) (me : Knows) → Found v x i me
-    → me.1 ≡ (0, y) ∷ rest me.1 → Breaks y z → BreaksInTurn v x (me.0, (0, z) ∷ rest me.1)
-broke v x y z i me f is b = record {
+pub broke : (v : View) (x y z : Stored) (refused : OutOfMemory) (i : ℕ) (me : Knows)
+    → Found v x i me
+    → me.1 ≡ (0, y) ∷ rest me.1 → Breaks y refused z
+    → BreaksInTurn v x refused (me.0, (0, z) ∷ rest me.1)
+broke v x y z refused i me f is b = record {
   after = z;
-  breaks = subst (λ u. Breaks u z) (sym (found_lent v x y i me f is)) b;
+  breaks = subst (λ u. Breaks u refused z) (sym (found_lent v x y i me f is)) b;
   used = f.used;
   clear = Some i;
   me = changed_held v x y z i me f;
@@ -133,7 +137,7 @@ broke v x y z i me f is b = record {
 pub broke_by : (v : View) (x y z : Stored) (i by : ℕ) (e : Event) (spent : Bool)
     (f : DeskFault) (me : Knows) → Found v x i me → me.1 ≡ (0, y) ∷ rest me.1
     → AsksAs y i by e (Err f) z → OpensAs v x spent by e (Err f) (me.0, (0, z) ∷ rest me.1)
-broke_by v x y z i by e spent (fault.Memory refused) me f is a = broke v x y z i me f is a
+broke_by v x y z i by e spent (fault.Memory refused) me f is a = broke v x y z refused i me f is a
 broke_by v x y z i by e spent fault.Busy me f is a = absurd a
 broke_by v x y z i by e spent fault.JournalSpent me f is a = absurd a
 broke_by v x y z i by e spent fault.PassSpent me f is a = absurd a

@@ -20,6 +20,7 @@ use Rattle.gb_desk.specs.Steps.{Knows, Settles, both, longer, settled}
 use Rattle.gb_desk.specs.declared.stored.Stored.{Stored}
 use Rattle.gb_desk.specs.declared.view.View.{View}
 use Rattle.gb_system.specs.declared.system.System.{System}
+use Rattle.gb_desk.specs.Turns.{is_broken}
 
 told_both : (a b : Bool) (P : Type 0) → (a ≡ true → P) → (b ≡ true → P) → (a || b) ≡ true → P
 told_both true b P f g is = f refl
@@ -30,7 +31,7 @@ fits_both : (first : System) (x : Stored) (v w : View) → 0 < v.parts → Fits 
 fits_both first x v w part f g = record {
   seen = f.seen;
   beside = g.seen;
-  told = told_both v.told w.told (x.broken ≡ true) f.told g.told;
+  told = told_both v.told w.told (is_broken x ≡ true) f.told g.told;
   tickets = λ t i. ⊎_elim (f.tickets t) (g.tickets t) (in_append t v.tickets w.tickets i);
   enough =
       let long = length-append v.tickets w.tickets in

@@ -14,6 +14,7 @@ use Rattle.gb_desk.specs.Slots.{times}
 use Rattle.gb_desk.specs.declared.stored.Stored.{Stored}
 use Rattle.gb_desk.specs.declared.view.View.{View}
 use Rattle.gb_system.specs.declared.system.System.{System}
+use Rattle.gb_desk.specs.Turns.{is_broken}
 
 -- What a step changes: one pass, what is shared, and the words.
 pub record Changes (first : System) (s : State Stored View) (id : ℕ) (v w : View) (x y : Stored)
@@ -34,7 +35,7 @@ pub record Changes (first : System) (s : State Stored View) (id : ℕ) (v w : Vi
   pub parts : w.parts ≡ v.parts
   pub places : (m : ℕ) → times m w.mine + once_below m (length x.journal)
       ≡ times m v.mine + once_below m (length y.journal)
-  pub told : y.broken ≡ true → (w.told ≡ true) ⊎ ((x.broken ≡ true) × (w.told ≡ v.told))
+  pub told : is_broken y ≡ true → (w.told ≡ true) ⊎ ((is_broken x ≡ true) × (w.told ≡ v.told))
 
 -- what is so of each pass, where one changes
 pub each_set : (first : System) (x y : Stored) (views : List View) (id : ℕ) (w : View)
@@ -53,15 +54,15 @@ told_one : (w : View) → w.told ≡ true → told_in w ≡ 1
 told_one w is = rw is refl
 
 told_now : (s : State Stored View) (id : ℕ) (v w : View) (x : Stored)
-    → get_elem? s.views id ≡ some v → (x.broken ≡ true → 0 < total told_in s.views)
-    → (w.told ≡ true) ⊎ ((x.broken ≡ true) × (w.told ≡ v.told))
+    → get_elem? s.views id ≡ some v → (is_broken x ≡ true → 0 < total told_in s.views)
+    → (w.told ≡ true) ⊎ ((is_broken x ≡ true) × (w.told ≡ v.told))
     → 0 < total told_in (set s.views id w)
 told_now s id v w x at was how =
     let sum = total_set told_in s.views id v w at in
     let least = total_at told_in s.views id v at in
     ⊎_elim
     (λ (is : w.told ≡ true). (let one = told_one w is in omega arith))
-    (λ (is : (x.broken ≡ true) × (w.told ≡ v.told)).
+    (λ (is : (is_broken x ≡ true) × (w.told ≡ v.told)).
     (let some_one = was is.0 in
     let same : told_in w ≡ told_in v = rw (is.1) refl in omega arith))
     how

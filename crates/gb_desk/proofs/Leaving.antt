@@ -14,6 +14,7 @@ use Rattle.gb_desk.specs.Steps.{Leaves, left}
 use Rattle.gb_desk.specs.declared.stored.Stored.{Stored}
 use Rattle.gb_desk.specs.declared.view.View.{View}
 use Rattle.gb_system.specs.declared.system.System.{System}
+use Rattle.gb_desk.specs.Turns.{is_broken}
 
 fits_left : (first : System) (x : Stored) (v : View) → 0 < v.parts → Fits first x v
     → Fits first x (left v x)
@@ -48,7 +49,7 @@ leaving first s id v x k part at h =
       others = λ j u apart there fits. subst (λ z. Fits first z u) h.is fits;
       parts = refl;
       places = λ m. ap (λ z. times m v.mine + once_below m (length z.journal)) h.is;
-      told = λ broken. inr (ap (λ z. z.broken) h.is ∙ broken, refl);
+      told = λ broken. inr (ap is_broken h.is ∙ broken, refl);
     }
 
 pub leave : (slots : ℕ) (first : System) (id : ℕ) (v : View) (x : Stored) → v.out ≡ Some x

@@ -22,3 +22,4 @@ pub mod Asking
 pub mod Telling
 pub mod InTurns
 pub mod Opening
+pub mod Cuts

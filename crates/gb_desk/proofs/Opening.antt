@@ -22,7 +22,7 @@ shared_first x = record {
   system = x;
   journal = [];
   slots = replicate 256 None;
-  broken = false;
+  broken = None;
 }
 
 fits_first : (x : System) → Fits x (shared_first x) (first_view x)

@@ -26,6 +26,7 @@ use Rattle.gb_machine.specs.Members.{IsIn}
 use Rattle.gb_desk.specs.declared.stored.Stored.{Stored}
 use Rattle.gb_desk.specs.declared.view.View.{View}
 use Rattle.gb_system.specs.declared.system.System.{System}
+use Rattle.gb_desk.specs.Turns.{is_broken}
 
 -- ---- taking
 
@@ -175,7 +176,7 @@ not_told false none = refl
 pub record Follows (x y : Stored) (but : ℕ) : Type 0 where
   pub journal : (y.journal ≡ x.journal)
       ⊎ ((e : JournalEntry) × (y.journal ≡ x.journal ++ e ∷ []))
-  pub broken : x.broken ≡ true → y.broken ≡ true
+  pub broken : is_broken x ≡ true → is_broken y ≡ true
   pub tickets : (t : Ticket) → t.slot ≢ but → IsOfSlot x.slots t → IsOfSlot y.slots t
 
 begins : (x y : Stored) (but : ℕ) (xs : List JournalEntry) → Follows x y but

@@ -60,6 +60,10 @@ abbrev pub IsLegalFrom : Option System → List JournalEntry → Type 0
 IsLegalFrom first journal = (x : System) → first ≡ Some x → (s : State) → Stands x s
     → IsLegal s journal (after s (events_of journal))
 
+-- what was seen is such a history
+abbrev pub HasLegal : View → Type 0
+HasLegal v = IsLegalFrom v.first v.seen
+
 -- what holds of the number of events that the system took, those of the history with those before
 abbrev pub OfTaken : (ℕ → Type 0) → View → Type 0
 OfTaken holds v = (x : System) → v.first ≡ Some x → holds (taken_of x + length v.seen)
@@ -85,7 +89,7 @@ pub record Entered (v : View) (by : ℕ) (e : Event) (entries : List Entry) (w :
     tickets = w.tickets;
   }
 
--- Another pass had the turn. Nothing changed but the count of this.
+-- It was busy, which a pass with all parts never is. Nothing changed but the count of this.
 pub record MetAnother (v : View) (w : View) : Type 0 where
   pub rest : w ≡ met v
   pub parts : v.parts ≢ all_parts
@@ -160,8 +164,8 @@ pub record SawPassSpent (v : View) (w : View) : Type 0 where
   pub spent : length v.tickets ≡ v.parts
   pub rest : w ≡ record v { seen = w.seen; used = w.used }
 
--- There are 256 requests of which each is open, or has a ticket that was found. A pass with all
--- parts finds its own.
+-- There are 256 requests of which each is open, or is counted as found with a ticket. Those that a
+-- pass with all parts counts have tickets of its own.
 pub record SawFull (v : View) (w : View) : Type 0 where
   pub seen : IsPrefix v.seen w.seen
   pub legal : IsLegalFrom w.first w.seen

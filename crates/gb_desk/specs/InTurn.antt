@@ -7,7 +7,8 @@ use Rattle.gb_desk.specs.Rules.{IsOfSlot, Sound, all_parts}
 use Rattle.gb_desk.specs.Slots.{IsEnded, IsOpen, slot_at}
 use Rattle.gb_desk.specs.Steps.{IsClear, IsHeld, Knows, opening, taking}
 use Rattle.gb_desk.specs.Tickets.{HasTicket, held}
-use Rattle.gb_desk.specs.Turns.{Asked, Breaks, IsPassSpent, IsReady, IsSpent}
+use Rattle.gb_base.specs.declared.errors.OutOfMemory.{OutOfMemory}
+use Rattle.gb_desk.specs.Turns.{Asked, Breaks, IsPassSpent, IsReady, IsSpent, is_broken}
 use Rattle.gb_desk.specs.declared.fault.DeskFault.{DeskFault}
 use Rattle.gb_desk.specs.declared.fault.DeskFault.TheVariants as fault
 use Rattle.gb_desk.specs.declared.slots.Slot.{Slot}
@@ -36,7 +37,7 @@ pub record Start (v : View) (x : Stored) (first : System) : Type 0 where
   pub enough : length v.tickets ≤ v.parts
   pub is_first : v.first ≡ Some first
   pub seen : IsPrefix v.seen x.journal
-  pub told : v.told ≡ true → x.broken ≡ true
+  pub told : v.told ≡ true → is_broken x ≡ true
   pub tickets : (t : Ticket) → IsIn t v.tickets → IsOfSlot x.slots t
   pub sound : Sound first x
 
@@ -95,9 +96,10 @@ pub record AskedInTurn (v : View) (x : Stored) (by : ℕ) (e : Event) (o : Opene
   pub me : it ≡ with_request at (asked_in o.entries) search.0 x after
 
 -- No memory was found.
-pub record BreaksInTurn (v : View) (x : Stored) (it : Knows) : Type 0 where
+pub record BreaksInTurn (v : View) (x : Stored) (refused : OutOfMemory) (it : Knows)
+    : Type 0 where
   pub after : Stored
-  pub breaks : Breaks x after
+  pub breaks : Breaks x refused after
   pub used : List ℕ
   pub clear : Option ℕ
   pub me : it ≡ (record v { used = used; clear = clear }, (0, after) ∷ [])
@@ -109,5 +111,5 @@ OpensAs v x spent by e (Err fault.Full) me = IsReady x spent × Searched v x 256
 OpensAs v x spent by e (Err fault.JournalSpent) me = IsSpent x × (me ≡ (v, (0, x) ∷ []))
 OpensAs v x spent by e (Err fault.PassSpent) me =
     IsPassSpent x spent × (me ≡ (v, (0, x) ∷ []))
-OpensAs v x spent by e (Err (fault.Memory refused)) me = BreaksInTurn v x me
+OpensAs v x spent by e (Err (fault.Memory refused)) me = BreaksInTurn v x refused me
 OpensAs v x spent by e (Err fault.Busy) me = ⊥

@@ -6,3 +6,5 @@ pub mod Steps
 pub mod InTurn
 pub mod Calls
 pub mod Passes
+pub mod Heads
+pub mod Journals

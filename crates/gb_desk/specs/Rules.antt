@@ -7,6 +7,7 @@ use mathlib.Core.Option as core
 use Rattle.atomic_table.specs.Table.{State}
 use Rattle.gb_desk.specs.Slots.{SlotsStand, hit, requests_in, slot_at, times}
 use Rattle.gb_desk.specs.Tickets.{held}
+use Rattle.gb_desk.specs.Turns.{is_broken}
 use Rattle.gb_desk.specs.declared.slots.Slot.{Slot}
 use Rattle.gb_desk.specs.declared.stored.Stored.{Stored}
 use Rattle.gb_desk.specs.declared.ticket.Ticket.{Ticket}
@@ -68,14 +69,14 @@ pub record FollowsFrom (s : machine.State) (x : Stored) : Type 0 where
   pub legal : IsLegal s x.journal (after s (events_of x.journal))
   pub run : OfARun (after s (events_of x.journal))
   pub slots : SlotsStand (after s (events_of x.journal)) (requests_in x.journal) x.slots
-  pub stands : x.broken ≡ false → Stands x.system (after s (events_of x.journal))
+  pub stands : is_broken x ≡ false → Stands x.system (after s (events_of x.journal))
 
 -- What is shared follows from the first system.
 pub record Sound (first : System) (x : Stored) : Type 0 where
   pub follows : (s : machine.State) → Stands first s → FollowsFrom s x
   pub long : length x.slots ≡ 256
-  pub taken : x.broken ≡ false → taken_of x.system ≡ taken_of first + length x.journal
-  pub room : x.broken ≡ true → taken_of first + length x.journal < 4294967295
+  pub taken : is_broken x ≡ false → taken_of x.system ≡ taken_of first + length x.journal
+  pub room : is_broken x ≡ true → taken_of first + length x.journal < 4294967295
 
 -- ---- what passes know
 
@@ -107,7 +108,7 @@ pub record IsOfSlot (slots : List (Option Slot)) (t : Ticket) : Type 0 where
 pub record Fits (start : System) (x : Stored) (v : View) : Type 0 where
   pub seen : IsPrefix v.seen x.journal
   pub beside : IsPrefix v.beside x.journal
-  pub told : v.told ≡ true → x.broken ≡ true
+  pub told : v.told ≡ true → is_broken x ≡ true
   pub tickets : (t : Ticket) → IsIn t v.tickets → IsOfSlot x.slots t
   pub enough : length v.tickets ≤ v.parts
   pub clear : (i : ℕ) → v.clear ≡ Some i → 0 < turns_of v
@@ -138,4 +139,4 @@ pub record Kept (first : System) (s : State Stored View) : Type 0 where
       → (i < 256) × (total (held_in i) s.views ≡ 0)
   pub parts : total parts_of s.views ≡ all_parts
   pub places : (n : ℕ) → total (times_in n) s.views ≡ once_below n (length current.journal)
-  pub told : current.broken ≡ true → 0 < total told_in s.views
+  pub told : is_broken current ≡ true → 0 < total told_in s.views

@@ -10,6 +10,7 @@ use Rattle.gb_desk.specs.declared.view.View.{View}
 use Rattle.gb_desk.specs.Rules.{IsOfSlot, Sound, all_parts, once_below}
 use Rattle.gb_desk.specs.Slots.{slot_at, times}
 use Rattle.gb_desk.specs.Tickets.{HasTicket, fewer, held, ticket}
+use Rattle.gb_desk.specs.Turns.{is_broken}
 use Rattle.gb_desk.specs.declared.slots.Slot.{Slot}
 use Rattle.gb_desk.specs.declared.ticket.Ticket.{Ticket}
 use Rattle.gb_machine.specs.Members.{IsIn}
@@ -41,7 +42,7 @@ pub record Took (v : View) (after : Knows) : Type 0 where
   pub is_first : v.first ≡ Some first
   pub sound : Sound first shared
   pub seen : IsPrefix v.seen shared.journal
-  pub told : v.told ≡ true → shared.broken ≡ true
+  pub told : v.told ≡ true → is_broken shared ≡ true
   pub tickets : (t : Ticket) → IsIn t v.tickets → IsOfSlot shared.slots t
 
 -- The turn was held by another pass, so this one hasn't all parts.
@@ -64,7 +65,7 @@ abbrev pub gave : View → Stored → Stored → View
 gave v x y = record v {
   seen = y.journal;
   mine = mine_after v.mine (length x.journal) (length y.journal);
-  told = y.broken;
+  told = is_broken y;
   clear = None;
   out = None;
 }
@@ -115,7 +116,7 @@ abbrev pub opening : ℕ → ℕ → View → Stored → Stored → View
 opening i n v x y = record v {
   seen = y.journal;
   mine = mine_after v.mine (length x.journal) (length y.journal);
-  told = y.broken;
+  told = is_broken y;
   tickets = ticket i n ∷ v.tickets;
   clear = None;
   out = Some y;

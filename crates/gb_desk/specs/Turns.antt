@@ -1,6 +1,7 @@
 -- What a call does with the system and its history, in its turn.
 use Rattle.std.specs.Prelude.{◌≡◌, ℕ, ◌+◌, ◌<◌, ◌≤◌, Bool, true, false, List, [], ◌∷◌, ◌++◌}
-use Rattle.std.specs.Prelude.{Result, Ok, Err, Option, Some, None, option_map, slice_set}
+use Rattle.std.specs.Prelude.{Result, Ok, Err, Option, Some, None, is_some, option_map}
+use Rattle.std.specs.Prelude.{slice_set}
 use Rattle.gb_base.specs.declared.entry.Entry.{Entry}
 use Rattle.gb_base.specs.declared.errors.OutOfMemory.{OutOfMemory}
 use Rattle.gb_base.specs.declared.event.Event.{Event}
@@ -39,25 +40,29 @@ abbrev pub AddsAs : Stored → ℕ → Event → Result (List Entry) OutOfMemory
 AddsAs x by e (Ok entries) y = Done x by e entries y
 AddsAs x by e (Err refused) y = (y.journal ≡ x.journal) × (y.slots ≡ x.slots)
 
+-- an event found no memory
+abbrev pub is_broken : Stored → Bool
+is_broken x = is_some x.broken
+
 -- An event was done.
 pub record Enters (x : Stored) (by : ℕ) (e : Event) (entries : List Entry) (y : Stored)
     : Type 0 where
   pub done : Done x by e entries y
-  pub before : x.broken ≡ false
-  pub after : y.broken ≡ false
+  pub before : is_broken x ≡ false
+  pub after : is_broken y ≡ false
   pub room : taken_of x.system < 4294967295
 
--- No memory was found, now or earlier.
-pub record Breaks (x : Stored) (y : Stored) : Type 0 where
+-- No memory was found, now or earlier. From then on what was refused is kept.
+pub record Breaks (x : Stored) (refused : OutOfMemory) (y : Stored) : Type 0 where
   pub journal : y.journal ≡ x.journal
   pub slots : y.slots ≡ x.slots
-  pub after : y.broken ≡ true
-  pub room : x.broken ≡ false → taken_of x.system < 4294967295
+  pub after : y.broken ≡ Some refused
+  pub room : is_broken x ≡ false → taken_of x.system < 4294967295
 
 -- what an event that may be done does
 abbrev pub TriesAs : Stored → ℕ → Event → Result (List Entry) DeskFault → Stored → Type 0
 TriesAs x by e (Ok entries) y = Enters x by e entries y
-TriesAs x by e (Err (fault.Memory refused)) y = Breaks x y
+TriesAs x by e (Err (fault.Memory refused)) y = Breaks x refused y
 TriesAs x by e (Err fault.Busy) y = ⊥
 TriesAs x by e (Err fault.JournalSpent) y = ⊥
 TriesAs x by e (Err fault.PassSpent) y = ⊥
@@ -65,25 +70,25 @@ TriesAs x by e (Err fault.Full) y = ⊥
 
 -- The system takes no more events.
 pub record IsSpent (x : Stored) : Type 0 where
-  pub whole : x.broken ≡ false
+  pub whole : is_broken x ≡ false
   pub taken : 4294967295 ≤ taken_of x.system
 
 -- The system takes an event more, but the pass has no part left for a ticket.
 pub record IsPassSpent (x : Stored) (none_left : Bool) : Type 0 where
-  pub whole : x.broken ≡ false
+  pub whole : is_broken x ≡ false
   pub room : taken_of x.system < 4294967295
   pub spent : none_left ≡ true
 
 -- The system takes an event more.
 pub record IsReady (x : Stored) (none_left : Bool) : Type 0 where
-  pub whole : x.broken ≡ false
+  pub whole : is_broken x ≡ false
   pub room : taken_of x.system < 4294967295
   pub unspent : none_left ≡ false
 
 -- what keeps a pass from an event in its turn, None where nothing does
 abbrev pub BarsAs : Stored → Bool → Option DeskFault → Type 0
 BarsAs x spent None = IsReady x spent
-BarsAs x spent (Some (fault.Memory refused)) = x.broken ≡ true
+BarsAs x spent (Some (fault.Memory refused)) = x.broken ≡ Some refused
 BarsAs x spent (Some fault.JournalSpent) = IsSpent x
 BarsAs x spent (Some fault.PassSpent) = IsPassSpent x spent
 BarsAs x spent (Some fault.Busy) = ⊥
@@ -96,7 +101,7 @@ TurnsAs x by e (Err fault.Busy) y = ⊥
 TurnsAs x by e (Err fault.PassSpent) y = ⊥
 TurnsAs x by e (Err fault.Full) y = ⊥
 TurnsAs x by e (Err fault.JournalSpent) y = IsSpent x × (y ≡ x)
-TurnsAs x by e (Err (fault.Memory refused)) y = Breaks x y
+TurnsAs x by e (Err (fault.Memory refused)) y = Breaks x refused y
 
 -- An event was done, and told a request, which got a slot and a ticket; or it told none.
 pub record Asked (x : Stored) (at by : ℕ) (e : Event) (o : Opened) (y : Stored) : Type 0 where
@@ -108,7 +113,7 @@ pub record Asked (x : Stored) (at by : ℕ) (e : Event) (o : Opened) (y : Stored
 -- what an event that asks a request does in its turn, where a slot is free
 abbrev pub AsksAs : Stored → ℕ → ℕ → Event → Result Opened DeskFault → Stored → Type 0
 AsksAs x at by e (Ok o) y = Asked x at by e o y
-AsksAs x at by e (Err (fault.Memory refused)) y = Breaks x y
+AsksAs x at by e (Err (fault.Memory refused)) y = Breaks x refused y
 AsksAs x at by e (Err fault.Busy) y = ⊥
 AsksAs x at by e (Err fault.JournalSpent) y = ⊥
 AsksAs x at by e (Err fault.PassSpent) y = ⊥

@@ -7,6 +7,7 @@ ghost use Rattle.gb_desk.specs.Rules.{all_parts};
 ghost use Rattle.gb_machine.specs.AskingEvents.{asks};
 ghost use Rattle.gb_machine.specs.Members.{IsIn};
 
+use crate::journal::Journal;
 use crate::seat::{ask, cut, enter, give_back, glue, keep, open};
 use crate::slots::{SLOTS, Slots, Told};
 use crate::stored::Stored;
@@ -14,9 +15,9 @@ use crate::ticket::{Opened, Ticket};
 use crate::view::{Law, View};
 use crate::{Busy, DeskFault, Pass, PassSpent};
 use atomic_table::{Refused, Table};
-use gb_base::{Entries, Event, Journal, OutOfMemory};
+use gb_base::{Entries, Event, OutOfMemory};
 use gb_system::System;
-use std::alloc::Global;
+use std::alloc::{AllocError, Global};
 use std::marker::Brand;
 use std::snapshot::Snapshot;
 
@@ -54,7 +55,7 @@ impl Desk {
             system,
             journal: Journal::new(alloc),
             slots: Slots::new(),
-            broken: false,
+            broken: None,
         };
         let mut slots = Vec::new(alloc);
         slots.push(stored)?;
@@ -67,7 +68,8 @@ impl Desk {
                 };
                 Ok((Desk { table }, pass))
             }
-            Err(Refused { slots: _ }) => Err(OutOfMemory),
+            // The kit's table answers only that its allocator refused.
+            Err(Refused { slots: _ }) => Err(OutOfMemory::from(AllocError)),
         }
     }
 

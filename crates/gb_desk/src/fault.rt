@@ -15,8 +15,8 @@ pub enum DeskFault {
     PassSpent,
     /// Each of the 256 slots has a request that is open or has a ticket.
     Full,
-    /// No memory was found, now or in an earlier call. Every later call that gets the
-    /// turn answers this.
+    /// No memory was found, now or in an earlier call. Every later call that gets the turn answers
+    /// this, with what was refused then, but `outcome`, which goes on to tell.
     Memory(OutOfMemory),
 }
 

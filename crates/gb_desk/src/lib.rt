@@ -4,6 +4,7 @@
 mod desk;
 mod events;
 mod fault;
+mod journal;
 mod pass;
 mod seat;
 mod slots;
@@ -14,6 +15,7 @@ mod view;
 pub use desk::Desk;
 pub use events::asks;
 pub use fault::{Busy, DeskFault, PassSpent};
+pub use journal::{Journal, PastEvent, PastEvents};
 pub use pass::Pass;
 pub use slots::Told;
 pub use ticket::{Opened, Ticket};

@@ -5,27 +5,29 @@ ghost use Rattle.gb_formats.specs.ValidEvents.{IsValid};
 ghost use Rattle.gb_system.specs.Stands.{taken_of};
 
 use crate::DeskFault;
+use crate::journal::Journal;
 use crate::slots::{Slot, Slots, first_asked};
 use crate::ticket::{Opened, Ticket};
-use gb_base::{Entries, Event, Journal, JournalEntry, OutOfMemory, TryCopy};
+use gb_base::{Entries, Event, OutOfMemory, TryCopy};
 use gb_system::System;
 
 /// How many events a system takes.
 const MOST_EVENTS: u64 = 4_294_967_295;
 
 /// The system with the history that led to it, the slots of the requests that have tickets, and
-/// whether an event found no memory.
+/// what was refused to an event that found no memory.
 #[derive(Drop)]
 pub struct Stored {
     pub system: System,
     pub journal: Journal,
     pub slots: Slots,
-    pub broken: bool,
+    pub broken: Option<OutOfMemory>,
 }
 
 impl Stored {
     ghost use Rattle.gb_desk.specs.Tickets.{ticket};
-    ghost use Rattle.gb_desk.specs.Turns.{AddsAs, AsksAs, BarsAs, TriesAs, TurnsAs, with_new};
+    ghost use Rattle.gb_desk.specs.Turns.{AddsAs, AsksAs, BarsAs, TriesAs, TurnsAs};
+    ghost use Rattle.gb_desk.specs.Turns.{is_broken, with_new};
     ghost use Rattle.gb_laws.specs.Tickets.{asked_in};
 
     // Does the event and writes it down. After a refusal the history and the slots are as before.
@@ -37,12 +39,7 @@ impl Stored {
     {
         let event = e.copy()?;
         let entries = self.system.step(e)?;
-        let kept = entries.copy()?;
-        self.journal.push(JournalEntry {
-            by,
-            event,
-            entries: kept,
-        })?;
+        self.journal.push(by, event, entries.items())?;
         self.slots.note(entries.items());
         Ok(entries)
     }
@@ -50,14 +47,14 @@ impl Stored {
     // The same, and from then on the history is broken where no memory was found.
     fn try_add(&mut self, by: u8, e: &Event) -> Result<Entries, DeskFault>
         requires valid { IsValid e.now }
-        requires whole { self.old.broken ≡ false }
+        requires whole { is_broken self.old ≡ false }
         requires room { taken_of self.old.system < 4294967295 }
         ensures tried { TriesAs self.old by e.now result self.new }
     {
         match self.add(by, e) {
             Ok(entries) => Ok(entries),
             Err(refused) => {
-                self.broken = true;
+                self.broken = Some(refused);
                 Err(DeskFault::Memory(refused))
             }
         }
@@ -68,8 +65,8 @@ impl Stored {
     pub fn bars(&self, spent: bool) -> Option<DeskFault>
         ensures { BarsAs self.now spent result }
     {
-        if self.broken {
-            return Some(DeskFault::Memory(OutOfMemory));
+        if let Some(refused) = self.broken {
+            return Some(DeskFault::Memory(refused));
         }
         if self.system.taken() >= MOST_EVENTS {
             return Some(DeskFault::JournalSpent);
@@ -95,7 +92,7 @@ impl Stored {
     /// slot and a ticket.
     pub fn ask(&mut self, at: usize, by: u8, e: &Event) -> Result<Opened, DeskFault>
         requires valid { IsValid e.now }
-        requires whole { self.old.broken ≡ false }
+        requires whole { is_broken self.old ≡ false }
         requires room { taken_of self.old.system < 4294967295 }
         requires slot { at < 256 }
         ensures asked { AsksAs self.old at by e.now result self.new }

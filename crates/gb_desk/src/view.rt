@@ -1,9 +1,10 @@
 //! What a pass knows, the rule of the desk, and what each step tells. No value of a view is made.
 
+use crate::journal::Journal;
 use crate::stored::Stored;
 use crate::ticket::Ticket;
 use atomic_table::{Join, Play, Split, TableRule};
-use gb_base::{Journal, Numbers};
+use gb_base::Numbers;
 use gb_system::System;
 use std::collections::LinkedList;
 use std::marker::{Brand, PhantomData};
@@ -19,7 +20,7 @@ pub struct View {
     pub mine: Numbers,
     /// Its parts of the right to close the desk.
     pub parts: u64,
-    /// How often it found the turn held.
+    /// How often it was answered Busy.
     pub met: u64,
     /// How often it was split.
     pub cuts: u64,
@@ -27,7 +28,7 @@ pub struct View {
     pub told: bool,
     /// The tickets that it holds.
     pub tickets: LinkedList<Ticket>,
-    /// The requests of which it found tickets in its last turn.
+    /// The requests that it counts as found with tickets in its last turn.
     pub used: Numbers,
     /// While it holds the turn, a slot of which it found no ticket.
     pub clear: Option<u64>,

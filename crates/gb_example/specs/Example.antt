@@ -5,7 +5,7 @@ use Rattle.std.specs.String.{string_bytes}
 use Rattle.gb_base.specs.declared.bridge.BridgeAsk.TheVariants as ask
 use Rattle.gb_base.specs.declared.event.Event.{Event}
 use Rattle.gb_base.specs.declared.event.Event.TheVariants as event
-use Rattle.gb_base.specs.declared.fault.WireFault.{WireFault}
+use Rattle.gb_base.specs.declared.reasons.WireFault.{WireFault}
 use Rattle.gb_base.specs.declared.name.Name.{Name}
 use Rattle.gb_example.specs.declared.rig.Rig.{Rig}
 use Rattle.gb_formats.specs.Manifest.{Manifest, check_answer, cport}

@@ -43,9 +43,9 @@ impl From<OutOfMemory> for PutFault {
     }
 }
 
-/// The firmware images of the application processor, each under a tag of its own, and the ids under
-/// which it lends them (Greybus Specification, "Firmware Download Protocol"). An image never
-/// changes.
+/// The firmware images of the application processor, each under a tag of its own, and the ids
+/// under which it lends them (Greybus Specification, "Firmware Download Protocol"). An image
+/// never changes.
 #[derive(Drop)]
 pub struct Images {
     alloc: Global,

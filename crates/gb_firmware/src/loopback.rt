@@ -9,9 +9,9 @@ use gb_bridge_payload::{LoopbackAsk, answered, done, fault_result, refused};
 use std::alloc::Global;
 use std::marker::Model;
 
-/// The Loopback device of a module (Greybus Specification, "Loopback Protocol"): it sends back the
-/// bytes of a transfer, with the numbers that are reserved as they came. It keeps nothing between
-/// requests.
+/// The Loopback device of a module (Greybus Specification, "Loopback Protocol"): it sends back
+/// the bytes of a transfer, with the numbers that are reserved as they came. It keeps nothing
+/// between requests.
 #[derive(Drop)]
 pub struct Loopback;
 

@@ -18,14 +18,14 @@ use Rattle.gb_base.specs.declared.entry.Entry.{Entry}
 use Rattle.gb_base.specs.declared.entry.Entry.TheVariants as entry
 use Rattle.gb_base.specs.declared.entry.IntfStage.{IntfStage}
 use Rattle.gb_base.specs.declared.entry.IntfStage.TheVariants as stage
-use Rattle.gb_base.specs.declared.fault.LineReason.{LineReason}
-use Rattle.gb_base.specs.declared.fault.LineReason.TheVariants as bad
-use Rattle.gb_base.specs.declared.fault.RawFault.{RawFault}
-use Rattle.gb_base.specs.declared.fault.RawFault.TheVariants as raw
-use Rattle.gb_base.specs.declared.fault.Reason.{Reason}
-use Rattle.gb_base.specs.declared.fault.Reason.TheVariants as reason
-use Rattle.gb_base.specs.declared.fault.WireFault.{WireFault}
-use Rattle.gb_base.specs.declared.fault.WireFault.TheVariants as wire
+use Rattle.gb_base.specs.declared.reasons.LineReason.{LineReason}
+use Rattle.gb_base.specs.declared.reasons.LineReason.TheVariants as bad
+use Rattle.gb_base.specs.declared.reasons.RawFault.{RawFault}
+use Rattle.gb_base.specs.declared.reasons.RawFault.TheVariants as raw
+use Rattle.gb_base.specs.declared.reasons.Reason.{Reason}
+use Rattle.gb_base.specs.declared.reasons.Reason.TheVariants as reason
+use Rattle.gb_base.specs.declared.reasons.WireFault.{WireFault}
+use Rattle.gb_base.specs.declared.reasons.WireFault.TheVariants as wire
 use Rattle.gb_base.specs.declared.name.Name.{Name}
 use Rattle.gb_base.specs.declared.outcome.Outcome.{Outcome}
 use Rattle.gb_base.specs.declared.outcome.Outcome.TheVariants as outcome
@@ -44,10 +44,10 @@ use Rattle.gb_formats.specs.Texts.{stage_text, state_text, wire_fault_text}
 
 -- A text is seen to be ASCII by a test of each byte. What is written in a text computes away, so
 -- that its other pieces are left.
-abbrev is_ascii : List ℕ → Bool
+abbrev pub is_ascii : List ℕ → Bool
 is_ascii bs = list_all (λ b. nat_lt b 128) bs
 
-seen : (bs : List ℕ) → is_ascii bs ≡ true → IsAscii bs
+pub seen : (bs : List ℕ) → is_ascii bs ≡ true → IsAscii bs
 seen [] h = IsAscii-nil
 seen (b ∷ bs) h = IsAscii-cons b bs (grind (arith, nat_tests)) (seen bs (grind (arith, nat_tests)))
 
@@ -58,7 +58,7 @@ tested (b ∷ bs) h =
     rw (tested bs (λ i. h (suc i))) (grind (arith, nat_tests))
 
 -- two pieces
-cat : (xs ys : List ℕ) → is_ascii (xs ++ ys) ≡ is_ascii xs && is_ascii ys
+pub cat : (xs ys : List ℕ) → is_ascii (xs ++ ys) ≡ is_ascii xs && is_ascii ys
 cat [] ys = refl
 cat (b ∷ bs) ys = rw (cat bs ys) (grind (arith, nat_tests))
 
@@ -83,14 +83,14 @@ onto (suc k) n acc h =
     let more = glyph n acc h in
     either (n / 10 == 0) _ _ more (onto k (n / 10) _ more)
 
-dec : (n : ℕ) → is_ascii (decimal n) ≡ true
+pub dec : (n : ℕ) → is_ascii (decimal n) ≡ true
 unfolding digits
 dec n = onto 64 n [] refl
 
 spelled : (bs : List ℕ) → is_ascii (encode_lower bs) ≡ true
 spelled bs = tested (encode_lower bs) (IsAscii-encode_with lower_digits bs (seen lower_digits refl))
 
-byte : (b : ℕ) → is_ascii (byte_text b) ≡ true
+pub byte : (b : ℕ) → is_ascii (byte_text b) ≡ true
 byte b = spelled (b ∷ [])
 
 bytes : (bs : List ℕ) → is_ascii (hex_text bs) ≡ true
@@ -119,7 +119,7 @@ refused refusal.NoCredit = refl
 refused refusal.Full = refl
 refused refusal.OutOfRange = refl
 
-because : (x : Reason) → is_ascii (reason_text x) ≡ true
+pub because : (x : Reason) → is_ascii (reason_text x) ≡ true
 because reason.ShortHeader = refl
 because reason.Size = refl
 because reason.Version = refl
@@ -248,7 +248,7 @@ line_is line hex (entry.Download i c tag size) h =
 line_is line hex (entry.Settled count) h = dec count
 line_is line hex (entry.Shown text) h = h text refl
 
-end_of_line : (line : List ℕ) → is_ascii line ≡ true → IsAscii (ended line)
+pub end_of_line : (line : List ℕ) → is_ascii line ≡ true → IsAscii (ended line)
 end_of_line line h = seen (ended line) (both line (10 ∷ []) h refl)
 
 -- what the report has for an entry; a text in it must be ASCII

@@ -1,12 +1,10 @@
 -- Whatever a line of a script says is an event that the machine may be given.
 use Rattle.std.proofs.Common.{◌≡◌, ℕ, Bool, true, false, List, [], ◌∷◌, arith, refl, subst}
 use Rattle.std.proofs.lemmas.Bool.Decides.{nat_tests}
-use Rattle.std.specs.Prelude.{Option, Some, None, Ok, Err, if◌then◌else◌, nat_le, length, codes}
-use Rattle.std.specs.Str.{bytes_eq}
+use Rattle.std.specs.Prelude.{Option, Some, None, Ok, Err, if◌then◌else◌, nat_le, length}
 use Rattle.gb_base.specs.declared.event.Event.{Event}
-use Rattle.gb_base.specs.declared.event.Event.TheVariants as event
-use Rattle.gb_base.specs.declared.fault.LineReason.TheVariants as bad
-use Rattle.gb_formats.specs.Grammar.{Said, is_comment, by_first, asked_for}
+use Rattle.gb_base.specs.declared.reasons.LineReason.TheVariants as bad
+use Rattle.gb_formats.specs.Grammar.{Said, by_first, asked_for}
 use Rattle.gb_formats.specs.Said.{Rest}
 use Rattle.gb_formats.specs.Script.{longest_line, bad_place, unless_bad, judged}
 use Rattle.gb_formats.specs.ValidEvents.{IsValid}
@@ -21,36 +19,34 @@ use Rattle.gb_formats.proofs.SaidValidBridges.{loopback_form-valid, uart_form-va
 use Rattle.gb_formats.proofs.SaidValidImages.{AreShort, giving_image-valid, loading-valid}
 use Rattle.gb_formats.proofs.SaidValidImages.{words_after-short}
 
+-- what the forms of lines say is valid, whatever the first word is
+ruleset forms = (
+  if-valid,
+  at_end-valid,
+  of_intf-valid,
+  of_cport-valid,
+  of_name-valid,
+  inserting-valid,
+  disconnecting-valid,
+  sending-valid,
+  delivering-valid,
+  settling-valid,
+  answering-valid,
+  copying-valid,
+  ticking-valid,
+  injecting-valid,
+  giving_image-valid,
+  loading-valid,
+  gpio_form-valid,
+  i2c_form-valid,
+  spi_form-valid,
+  uart_form-valid,
+  loopback_form-valid,
+)
+
 by_first-valid : (who : ℕ) (w : List ℕ) (ws : Rest) → AreShort 8192 ws.1
     → SaysValid (by_first who w ws)
-by_first-valid who w ws short =
-    if-valid (is_comment w) _ _ tt
-    (if-valid (bytes_eq w (codes "boot")) _ _ (at_end-valid ws event.Boot tt)
-    (if-valid (bytes_eq w (codes "insert")) _ _ (inserting-valid ws)
-    (if-valid (bytes_eq w (codes "pull")) _ _ (of_intf-valid event.Pull ws (λ i p. p))
-    (if-valid (bytes_eq w (codes "connect")) _ _
-    (of_cport-valid event.Connect ws (λ i c p q. (p, q)))
-    (if-valid (bytes_eq w (codes "disconnect")) _ _
-    (disconnecting-valid ws)
-    (if-valid (bytes_eq w (codes "send")) _ _ (sending-valid who ws)
-    (if-valid (bytes_eq w (codes "deliver")) _ _ (delivering-valid ws)
-    (if-valid (bytes_eq w (codes "settle")) _ _ (settling-valid ws)
-    (if-valid (bytes_eq w (codes "hold")) _ _ (of_cport-valid event.Hold ws (λ i c p q. (p, q)))
-    (if-valid (bytes_eq w (codes "answer")) _ _ (answering-valid ws)
-    (if-valid (bytes_eq w (codes "cancel")) _ _ (of_name-valid who event.Cancel ws (λ x p. p))
-    (if-valid (bytes_eq w (codes "copy")) _ _ (copying-valid who ws)
-    (if-valid (bytes_eq w (codes "drop")) _ _ (of_name-valid who event.Forget ws (λ x p. p))
-    (if-valid (bytes_eq w (codes "tick")) _ _ (ticking-valid ws)
-    (if-valid (bytes_eq w (codes "inject")) _ _ (injecting-valid ws)
-    (if-valid (bytes_eq w (codes "image")) _ _ (giving_image-valid ws short)
-    (if-valid (bytes_eq w (codes "load")) _ _ (loading-valid ws)
-    (if-valid (bytes_eq w (codes "show")) _ _ (at_end-valid ws event.Show tt)
-    (if-valid (bytes_eq w (codes "gpio")) _ _ (gpio_form-valid who ws)
-    (if-valid (bytes_eq w (codes "i2c")) _ _ (i2c_form-valid who ws)
-    (if-valid (bytes_eq w (codes "spi")) _ _ (spi_form-valid who ws)
-    (if-valid (bytes_eq w (codes "uart")) _ _ (uart_form-valid who ws)
-    (if-valid (bytes_eq w (codes "loopback")) _ _ (loopback_form-valid who ws)
-    tt)))))))))))))))))))))))
+by_first-valid who w ws short = search forms fits 10000 depth 60
 
 asked_for-valid : (who : ℕ) (ws : List (List ℕ)) → AreShort 8192 ws
     → SaysValid (asked_for who ws)

@@ -17,6 +17,7 @@ pub mod VectorsFirmware
 pub mod VectorsForms
 pub mod VectorsGpioDevice
 pub mod VectorsGpioI2cRecords
+pub mod VectorsLoader
 pub mod VectorsLoopback
 pub mod VectorsManifest
 pub mod VectorsOrders

@@ -2,7 +2,7 @@
 use Rattle.std.proofs.Common.{◌≡◌, ℕ, List, [], ◌∷◌, refl}
 use Rattle.std.specs.Prelude.{None, Ok, Err, ◌++◌, map, codes}
 use Rattle.hex.specs.Hex.{decode_pairs}
-use Rattle.gb_base.specs.declared.fault.LineReason.TheVariants as bad
+use Rattle.gb_base.specs.declared.reasons.LineReason.TheVariants as bad
 use Rattle.gb_formats.specs.Grammar.{Said}
 use Rattle.gb_formats.specs.Script.{judged}
 

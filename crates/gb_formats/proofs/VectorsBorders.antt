@@ -2,9 +2,9 @@
 use Rattle.std.proofs.Common.{◌≡◌, ℕ, false, List, [], ◌∷◌, refl}
 use Rattle.std.specs.Prelude.{None, Ok, Err, ◌++◌, codes, replicate}
 use Rattle.gb_base.specs.declared.event.Kind.TheVariants as kind
-use Rattle.gb_base.specs.declared.fault.LineReason.TheVariants as bad
-use Rattle.gb_base.specs.declared.fault.WireFault.TheVariants as wire
-use Rattle.gb_base.specs.declared.fault.Reason.TheVariants as reason
+use Rattle.gb_base.specs.declared.reasons.LineReason.TheVariants as bad
+use Rattle.gb_base.specs.declared.reasons.WireFault.TheVariants as wire
+use Rattle.gb_base.specs.declared.reasons.Reason.TheVariants as reason
 use Rattle.gb_formats.specs.Kinds.{kind_manifest}
 use Rattle.gb_formats.specs.Manifest.{check_answer}
 use Rattle.gb_formats.specs.ManifestRules.{Refused}

@@ -2,8 +2,8 @@
 use Rattle.std.proofs.Common.{◌≡◌, ℕ, true, false, List, [], ◌∷◌, refl}
 use Rattle.std.specs.Prelude.{Some, None, Ok, Err, ◌++◌, map, codes}
 use Rattle.hex.specs.Hex.{decode_pairs}
-use Rattle.gb_base.specs.declared.fault.CaptureFault.TheVariants as capture
-use Rattle.gb_base.specs.declared.fault.WireFault.TheVariants as wire
+use Rattle.gb_base.specs.declared.reasons.CaptureFault.TheVariants as capture
+use Rattle.gb_base.specs.declared.reasons.WireFault.TheVariants as wire
 use Rattle.gb_formats.specs.Captures.{Captured, captured}
 use Rattle.gb_formats.specs.Message.{request, response}
 

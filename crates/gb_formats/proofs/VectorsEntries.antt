@@ -9,10 +9,10 @@ use Rattle.gb_base.specs.declared.entry.ConnState.TheVariants as state
 use Rattle.gb_base.specs.declared.entry.Entry.{Entry}
 use Rattle.gb_base.specs.declared.entry.Entry.TheVariants as entry
 use Rattle.gb_base.specs.declared.entry.IntfStage.TheVariants as stage
-use Rattle.gb_base.specs.declared.fault.LineReason.TheVariants as bad
-use Rattle.gb_base.specs.declared.fault.RawFault.TheVariants as raw
-use Rattle.gb_base.specs.declared.fault.Reason.TheVariants as reason
-use Rattle.gb_base.specs.declared.fault.WireFault.TheVariants as wire
+use Rattle.gb_base.specs.declared.reasons.LineReason.TheVariants as bad
+use Rattle.gb_base.specs.declared.reasons.RawFault.TheVariants as raw
+use Rattle.gb_base.specs.declared.reasons.Reason.TheVariants as reason
+use Rattle.gb_base.specs.declared.reasons.WireFault.TheVariants as wire
 use Rattle.gb_base.specs.declared.outcome.Outcome.TheVariants as outcome
 use Rattle.gb_base.specs.declared.refusal.Refusal.TheVariants as refusal
 use Rattle.gb_formats.specs.Reasons.{refusal_text, reason_text}

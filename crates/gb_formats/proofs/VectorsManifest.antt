@@ -5,7 +5,7 @@ use Rattle.std.specs.Prelude.{replicate, ◌++◌, map, option_map, length, slic
 use Rattle.std.specs.Fmt.{digits}
 use Rattle.hex.specs.Hex.{encode_with}
 use Rattle.gb_base.specs.declared.event.Kind.TheVariants as kind
-use Rattle.gb_base.specs.declared.fault.Reason.TheVariants as reason
+use Rattle.gb_base.specs.declared.reasons.Reason.TheVariants as reason
 use Rattle.gb_formats.specs.Descriptors.{Descriptor, IsDescriptor}
 use Rattle.gb_formats.specs.Dump.{dump_text, string_text, check_text, refused_text}
 use Rattle.gb_formats.specs.Kinds.{kind_manifest, string_of, bundle_of, cport_of}

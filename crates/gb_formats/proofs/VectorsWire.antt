@@ -1,8 +1,8 @@
 -- Messages: what decoding answers, and how a stream is divided.
 use Rattle.std.proofs.Common.{◌≡◌, [], ◌∷◌, refl, inl, inr, arith}
 use Rattle.std.specs.Prelude.{Ok, Err, ◌++◌}
-use Rattle.gb_base.specs.declared.fault.RawFault.TheVariants as raw
-use Rattle.gb_base.specs.declared.fault.WireFault.TheVariants as wire
+use Rattle.gb_base.specs.declared.reasons.RawFault.TheVariants as raw
+use Rattle.gb_base.specs.declared.reasons.WireFault.TheVariants as wire
 use Rattle.gb_formats.specs.Message.{Message, request, response, spelling}
 use Rattle.gb_formats.specs.Wire.{Spells, IsStream, decode_answer, raw_message}
 use Rattle.gb_formats.proofs.Samples.{ping_bytes}

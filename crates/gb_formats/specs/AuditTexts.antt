@@ -6,10 +6,10 @@ use Rattle.std.specs.List.{concat}
 use Rattle.gb_base.specs.declared.audit.Finding.{Finding}
 use Rattle.gb_base.specs.declared.audit.Finding.TheVariants as finding
 use Rattle.gb_base.specs.declared.audit.Verdict.{Verdict}
-use Rattle.gb_base.specs.declared.fault.CaptureFault.{CaptureFault}
-use Rattle.gb_base.specs.declared.fault.CaptureFault.TheVariants as capture
-use Rattle.gb_base.specs.declared.fault.LineReason.TheVariants as bad
-use Rattle.gb_base.specs.declared.fault.RawFault.TheVariants as raw
+use Rattle.gb_base.specs.declared.reasons.CaptureFault.{CaptureFault}
+use Rattle.gb_base.specs.declared.reasons.CaptureFault.TheVariants as capture
+use Rattle.gb_base.specs.declared.reasons.LineReason.TheVariants as bad
+use Rattle.gb_base.specs.declared.reasons.RawFault.TheVariants as raw
 use Rattle.gb_formats.specs.Audit.{Found, findings, verdict}
 use Rattle.gb_formats.specs.Bytes.{joined}
 use Rattle.gb_formats.specs.Captures.{first_bad, heard}

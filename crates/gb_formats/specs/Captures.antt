@@ -3,12 +3,12 @@
 use Rattle.std.specs.Prelude.{ℕ, ◌+◌, Bool, true, false, if◌then◌else◌, Option, Some, None, Result}
 use Rattle.std.specs.Prelude.{Ok, Err, List, [], ◌∷◌, codes}
 use Rattle.std.specs.Str.{bytes_eq}
-use Rattle.gb_base.specs.declared.fault.CaptureFault.{CaptureFault}
-use Rattle.gb_base.specs.declared.fault.CaptureFault.TheVariants as capture
-use Rattle.gb_base.specs.declared.fault.LineReason.{LineReason}
-use Rattle.gb_base.specs.declared.fault.LineReason.TheVariants as bad
-use Rattle.gb_base.specs.declared.fault.RawFault.{RawFault}
-use Rattle.gb_base.specs.declared.fault.RawFault.TheVariants as raw
+use Rattle.gb_base.specs.declared.reasons.CaptureFault.{CaptureFault}
+use Rattle.gb_base.specs.declared.reasons.CaptureFault.TheVariants as capture
+use Rattle.gb_base.specs.declared.reasons.LineReason.{LineReason}
+use Rattle.gb_base.specs.declared.reasons.LineReason.TheVariants as bad
+use Rattle.gb_base.specs.declared.reasons.RawFault.{RawFault}
+use Rattle.gb_base.specs.declared.reasons.RawFault.TheVariants as raw
 use Rattle.gb_formats.specs.Grammar.{is_comment}
 use Rattle.gb_formats.specs.Message.{Message}
 use Rattle.gb_formats.specs.Script.{by_bytes}

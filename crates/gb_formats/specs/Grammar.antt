@@ -6,7 +6,7 @@ use Rattle.gb_base.specs.declared.end.End.TheVariants as end
 use Rattle.gb_base.specs.declared.event.Event.{Event}
 use Rattle.gb_base.specs.declared.event.Event.TheVariants as event
 use Rattle.gb_base.specs.declared.event.Kind.{Kind}
-use Rattle.gb_base.specs.declared.fault.LineReason.TheVariants as bad
+use Rattle.gb_base.specs.declared.reasons.LineReason.TheVariants as bad
 use Rattle.gb_base.specs.declared.name.Name.{Name}
 use Rattle.gb_formats.specs.BridgeForms.{gpio_form, i2c_form, loopback_form, spi_form, uart_form}
 use Rattle.gb_formats.specs.Said.{Rest, next_word, by_word, next_cport, at_end}

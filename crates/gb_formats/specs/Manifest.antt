@@ -4,8 +4,8 @@ use Rattle.std.specs.Prelude.{◌≡◌, ◌≤◌, ℕ, zero, suc, ◌+◌, ◌
 use Rattle.std.specs.Prelude.{not, ◌&&◌, ◌||◌, if◌then◌else◌, Option, Some, None, option_map}
 use Rattle.std.specs.Prelude.{Result, Ok, Err, List, [], ◌∷◌, ◌++◌, map, length, drop, slice_index}
 use Rattle.std.specs.Prelude.{find}
-use Rattle.gb_base.specs.declared.fault.Reason.{Reason}
-use Rattle.gb_base.specs.declared.fault.Reason.TheVariants as reason
+use Rattle.gb_base.specs.declared.reasons.Reason.{Reason}
+use Rattle.gb_base.specs.declared.reasons.Reason.TheVariants as reason
 use Rattle.gb_formats.specs.Bytes.{le16}
 use Rattle.gb_formats.specs.Descriptors.{Descriptor, IsDescriptor, size_at, type_at, least_size_at}
 use Rattle.gb_formats.specs.Descriptors.{descriptor_at}

@@ -2,7 +2,7 @@
 use Rattle.std.specs.Prelude.{ℕ, ◌+◌, nat_lt, if◌then◌else◌, Option, Some, None, Result, Ok, Err}
 use Rattle.std.specs.Prelude.{List, [], ◌∷◌, ◌++◌, map, length}
 use Rattle.std.specs.List.{concat}
-use Rattle.gb_base.specs.declared.fault.Reason.{Reason}
+use Rattle.gb_base.specs.declared.reasons.Reason.{Reason}
 use Rattle.gb_formats.specs.Bytes.{le16}
 use Rattle.gb_formats.specs.Descriptors.{Descriptor, least_size, plain_descriptor}
 use Rattle.gb_formats.specs.ManifestRules.{Placed, Refused, written_rules, first_of}

@@ -3,8 +3,8 @@ use Rattle.std.specs.Prelude.{ℕ, ◌+◌, nat_le, Bool, false, if◌then◌els
 use Rattle.std.specs.Prelude.{Result, Ok, Err, List, [], ◌∷◌, codes}
 use Rattle.std.specs.Str.{bytes_eq}
 use Rattle.gb_base.specs.declared.event.Event.{Event}
-use Rattle.gb_base.specs.declared.fault.LineReason.{LineReason}
-use Rattle.gb_base.specs.declared.fault.LineReason.TheVariants as bad
+use Rattle.gb_base.specs.declared.reasons.LineReason.{LineReason}
+use Rattle.gb_base.specs.declared.reasons.LineReason.TheVariants as bad
 use Rattle.gb_base.specs.declared.parts.Asked.{Asked}
 use Rattle.gb_base.specs.declared.parts.Parts.{Parts}
 use Rattle.gb_formats.specs.Grammar.{Said}

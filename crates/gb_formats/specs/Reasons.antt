@@ -1,7 +1,7 @@
 -- The words of refusals, of events and of manifests.
 use Rattle.std.specs.Prelude.{ℕ, List, codes}
-use Rattle.gb_base.specs.declared.fault.Reason.{Reason}
-use Rattle.gb_base.specs.declared.fault.Reason.TheVariants as reason
+use Rattle.gb_base.specs.declared.reasons.Reason.{Reason}
+use Rattle.gb_base.specs.declared.reasons.Reason.TheVariants as reason
 use Rattle.gb_base.specs.declared.refusal.Refusal.{Refusal}
 use Rattle.gb_base.specs.declared.refusal.Refusal.TheVariants as refusal
 

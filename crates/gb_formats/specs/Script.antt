@@ -2,8 +2,8 @@
 use Rattle.std.specs.Prelude.{ℕ, ◌+◌, Bool, ◌&&◌, nat_le, if◌then◌else◌, Option, Some, None, Result}
 use Rattle.std.specs.Prelude.{Err, List, [], ◌∷◌, length}
 use Rattle.std.specs.List.{list_all}
-use Rattle.gb_base.specs.declared.fault.LineReason.{LineReason}
-use Rattle.gb_base.specs.declared.fault.LineReason.TheVariants as bad
+use Rattle.gb_base.specs.declared.reasons.LineReason.{LineReason}
+use Rattle.gb_base.specs.declared.reasons.LineReason.TheVariants as bad
 use Rattle.gb_formats.specs.Grammar.{Said, asked_for}
 use Rattle.gb_formats.specs.Words.{words}
 

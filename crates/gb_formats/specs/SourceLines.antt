@@ -5,8 +5,8 @@ use Rattle.std.specs.Prelude.{Option, Some, None, option_map, Result, Ok, Err}
 use Rattle.std.specs.Prelude.{List, [], ◌∷◌, length, take, drop, slice_index, codes}
 use Rattle.std.specs.List.{list_all, list_any}
 use Rattle.std.specs.Str.{bytes_eq}
-use Rattle.gb_base.specs.declared.fault.MnfsReason.{MnfsReason}
-use Rattle.gb_base.specs.declared.fault.MnfsReason.TheVariants as mnfs
+use Rattle.gb_base.specs.declared.reasons.MnfsReason.{MnfsReason}
+use Rattle.gb_base.specs.declared.reasons.MnfsReason.TheVariants as mnfs
 use Rattle.gb_formats.specs.Script.{is_printable}
 use Rattle.gb_formats.specs.SourceValues.{trimmed, parted, source_number, source_string}
 

@@ -3,8 +3,8 @@ use Rattle.std.specs.Prelude.{ℕ, ◌==◌, ◌&&◌, not, Bool, if◌then◌el
 use Rattle.std.specs.Prelude.{Ok, Err, List, [], ◌∷◌, ◌++◌, find, codes}
 use Rattle.std.specs.List.{flat_map}
 use Rattle.std.specs.Fmt.{decimal}
-use Rattle.gb_base.specs.declared.fault.MnfsReason.{MnfsReason}
-use Rattle.gb_base.specs.declared.fault.MnfsReason.TheVariants as mnfs
+use Rattle.gb_base.specs.declared.reasons.MnfsReason.{MnfsReason}
+use Rattle.gb_base.specs.declared.reasons.MnfsReason.TheVariants as mnfs
 use Rattle.gb_base.specs.declared.status.Status.{Status}
 use Rattle.gb_base.specs.declared.status.Status.TheVariants as status
 use Rattle.gb_formats.specs.Bytes.{byte_text, joined}

@@ -12,12 +12,12 @@ use Rattle.gb_base.specs.declared.entry.Entry.{Entry}
 use Rattle.gb_base.specs.declared.entry.Entry.TheVariants as entry
 use Rattle.gb_base.specs.declared.entry.IntfStage.{IntfStage}
 use Rattle.gb_base.specs.declared.entry.IntfStage.TheVariants as stage
-use Rattle.gb_base.specs.declared.fault.LineReason.{LineReason}
-use Rattle.gb_base.specs.declared.fault.LineReason.TheVariants as bad
-use Rattle.gb_base.specs.declared.fault.RawFault.{RawFault}
-use Rattle.gb_base.specs.declared.fault.RawFault.TheVariants as raw
-use Rattle.gb_base.specs.declared.fault.WireFault.{WireFault}
-use Rattle.gb_base.specs.declared.fault.WireFault.TheVariants as wire
+use Rattle.gb_base.specs.declared.reasons.LineReason.{LineReason}
+use Rattle.gb_base.specs.declared.reasons.LineReason.TheVariants as bad
+use Rattle.gb_base.specs.declared.reasons.RawFault.{RawFault}
+use Rattle.gb_base.specs.declared.reasons.RawFault.TheVariants as raw
+use Rattle.gb_base.specs.declared.reasons.WireFault.{WireFault}
+use Rattle.gb_base.specs.declared.reasons.WireFault.TheVariants as wire
 use Rattle.gb_base.specs.declared.outcome.Outcome.{Outcome}
 use Rattle.gb_base.specs.declared.outcome.Outcome.TheVariants as outcome
 use Rattle.gb_formats.specs.Bytes.{byte_text, hex_text, joined}

@@ -4,10 +4,10 @@ use Rattle.std.specs.Prelude.{◌≡◌, ◌<◌, ◌≤◌, ◌≢◌, ◌⊎�
 use Rattle.std.specs.Prelude.{if◌then◌else◌, Result, Ok, Err, List, [], ◌∷◌, ◌++◌, length, take}
 use Rattle.std.specs.Prelude.{drop, slice_index}
 use Rattle.byteorder.specs.Endian.{little_number}
-use Rattle.gb_base.specs.declared.fault.RawFault.{RawFault}
-use Rattle.gb_base.specs.declared.fault.RawFault.TheVariants as raw
-use Rattle.gb_base.specs.declared.fault.WireFault.{WireFault}
-use Rattle.gb_base.specs.declared.fault.WireFault.TheVariants as wire
+use Rattle.gb_base.specs.declared.reasons.RawFault.{RawFault}
+use Rattle.gb_base.specs.declared.reasons.RawFault.TheVariants as raw
+use Rattle.gb_base.specs.declared.reasons.WireFault.{WireFault}
+use Rattle.gb_base.specs.declared.reasons.WireFault.TheVariants as wire
 use Rattle.gb_formats.specs.Bytes.{le16}
 use Rattle.gb_formats.specs.Message.{Message, message_size}
 

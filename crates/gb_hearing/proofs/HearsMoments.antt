@@ -27,7 +27,7 @@ use Rattle.gb_laws.proofs.identifiers.LowRequests.{IsLow, reached-low}
 use Rattle.gb_laws.proofs.runs.Midway.{KnownAt, known-held, known-resting}
 use Rattle.gb_laws.proofs.points.Places.{place-is}
 use Rattle.gb_laws.proofs.points.PointParts.{resting}
-use Rattle.gb_laws.proofs.runs.Reached.{reached-has}
+use Rattle.gb_laws.proofs.runs.OfStates.{reached-has}
 use Rattle.gb_laws.proofs.ends.Replies.{replies-by_moments}
 use Rattle.gb_machine.specs.Arriving.{takes}
 use Rattle.gb_machine.specs.Bus.{Ask, Item, Place, Raw, RawReply, Reply, Request}

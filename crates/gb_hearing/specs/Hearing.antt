@@ -8,7 +8,7 @@ use Rattle.std.specs.List.{filter}
 use Rattle.gb_base.specs.declared.end.Side.TheVariants as side
 use Rattle.gb_base.specs.declared.event.Event.{Event}
 use Rattle.gb_base.specs.declared.event.Event.TheVariants as event
-use Rattle.gb_base.specs.declared.fault.RawFault.{RawFault}
+use Rattle.gb_base.specs.declared.reasons.RawFault.{RawFault}
 use Rattle.gb_formats.specs.Audit.{findings}
 use Rattle.gb_formats.specs.Captures.{Heard}
 use Rattle.gb_formats.specs.Message.{Message, request, response}

@@ -5,11 +5,11 @@ use Rattle.std.proofs.Common.{◌∙◌, arith}
 use Rattle.std.proofs.lemmas.Bool.Decides.{nat_tests}
 use Rattle.std.specs.List.{find}
 use Rattle.gb_base.specs.declared.bridge.BridgeAsk.{BridgeAsk}
-use Rattle.gb_base.specs.declared.peers.Link.{Link}
+use Rattle.gb_base.specs.declared.interface.Link.{Link}
 use Rattle.gb_base.specs.declared.refusal.Refusal.TheVariants as why
 use Rattle.gb_formats.specs.Bridges.{Request, TooLarge, Unsupported, credits_taken}
 use Rattle.gb_formats.specs.UartDevice.{credits_spent}
-use Rattle.gb_host.proofs.Looks.{same-link}
+use Rattle.gb_host.proofs.LinksByNumber.{same-link}
 use Rattle.gb_host.specs.Changes.{with_fewer}
 use Rattle.gb_host.specs.Stands.{Stands}
 use Rattle.gb_host.specs.declared.host.Host.{Host}

@@ -9,7 +9,7 @@ use Rattle.std.specs.List.{filter, find}
 use Rattle.std.specs.Map.{lookup}
 use Rattle.std.specs.Option.{is_some}
 use Rattle.std.specs.Result.{OnOk, is_ok}
-use Rattle.gb_base.specs.declared.peers.Link.{Link}
+use Rattle.gb_base.specs.declared.interface.Link.{Link}
 use Rattle.gb_host.proofs.Named.{find-new, find-other, find-there, find-without, number_of}
 use Rattle.gb_host.proofs.Named.{equals, intf-of-end, same-end}
 use Rattle.gb_host.proofs.Rising.{and-both}

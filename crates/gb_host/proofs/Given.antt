@@ -3,7 +3,7 @@ use Rattle.std.proofs.Common.{◌≡◌, ◌≢◌, ℕ, true, cond, Option, Som
 use Rattle.std.proofs.Common.{Ok, Err, List, [], ◌∷◌, ◌++◌, refl, sym, ap, ◌∙◌, subst}
 use Rattle.std.specs.Bool.{⊤}
 use Rattle.gb_base.specs.declared.entry.ConnState.TheVariants as state
-use Rattle.gb_base.specs.declared.peers.Link.{Link}
+use Rattle.gb_base.specs.declared.interface.Link.{Link}
 use Rattle.gb_base.specs.declared.refusal.Refusal.TheVariants as why
 use Rattle.gb_base.specs.declared.refusal.Refusal.{Refusal}
 use Rattle.gb_base.specs.declared.steps.SequenceStep.TheVariants as steps
@@ -80,7 +80,7 @@ pends-same : (acts : List turns.Act) (x : Host) (is : Images) → Pends acts x
     → Pends acts (record x { images = is })
 pends-same [] x is pends = tt
 pends-same (turns.Act.Ask q ∷ acts) x is pends = pends-same acts x is pends
-pends-same (turns.Act.Open m q ∷ acts) x is pends =
+pends-same (turns.Act.Make m q ∷ acts) x is pends =
     (record { pending = pends.0.pending; room = pends.0.room }, pends-same acts x is pends.1)
 pends-same (turns.Act.Shut k ∷ acts) x is pends = pends-same acts x is pends
 pends-same (turns.Act.Leave k ∷ acts) x is pends = pends-same acts x is pends

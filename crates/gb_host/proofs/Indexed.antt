@@ -1,7 +1,7 @@
 -- What is kept to look connections up stays right.
 use Rattle.std.proofs.Common.{◌≡◌, ◌&&◌, ◌≤◌, ◌+◌, ℕ, Bool, true, List, [], ◌∷◌, ◌++◌, length}
 use Rattle.std.proofs.Common.{length-append, refl, sym, ap, ◌∙◌, arith, subst}
-use Rattle.gb_base.specs.declared.peers.Link.{Link}
+use Rattle.gb_base.specs.declared.interface.Link.{Link}
 use Rattle.gb_host.proofs.Idle.{idle-added}
 use Rattle.gb_host.proofs.Marks.{marks-kept}
 use Rattle.gb_host.proofs.Named.{find-kept, number_of}

@@ -6,7 +6,7 @@ pub mod Fronts
 pub mod Given
 pub mod Idle
 pub mod Indexed
-pub mod Looks
+pub mod LinksByNumber
 pub mod Manifests
 pub mod Marks
 pub mod Modules

@@ -5,7 +5,7 @@ use Rattle.std.proofs.Common.{arith, length, replicate, subst}
 use Rattle.std.proofs.lemmas.Bool.Decides.{nat_tests}
 use Rattle.std.proofs.lemmas.List.{get_or-replicate, length-replicate}
 use Rattle.std.specs.List.{list_any}
-use Rattle.gb_base.specs.declared.peers.Link.{Link}
+use Rattle.gb_base.specs.declared.interface.Link.{Link}
 use Rattle.gb_formats.proofs.FirstFree.{free-here, free-none}
 use Rattle.gb_host.proofs.Free.{free-past}
 use Rattle.gb_host.specs.Marks.{Marks}

@@ -7,8 +7,8 @@ use Rattle.std.specs.List.{filter, list_any}
 use Rattle.gb_base.specs.declared.entry.Entry.{Entry}
 use Rattle.gb_base.specs.declared.entry.Entry.TheVariants as entry
 use Rattle.gb_base.specs.declared.entry.IntfStage.TheVariants as stage
-use Rattle.gb_base.specs.declared.peers.Interface.{Interface}
-use Rattle.gb_base.specs.declared.peers.Link.{Link}
+use Rattle.gb_base.specs.declared.interface.Interface.{Interface}
+use Rattle.gb_base.specs.declared.interface.Link.{Link}
 use Rattle.gb_formats.specs.Images.{Images}
 use Rattle.gb_host.proofs.Fronts.{spelled-after}
 use Rattle.gb_host.specs.Changes.{with_module}

@@ -6,7 +6,7 @@ use Rattle.std.proofs.lemmas.Bool.Decides.{nat_tests}
 use Rattle.std.proofs.lemmas.List.Folds.{find-append}
 use Rattle.std.specs.List.{find, position_from}
 use Rattle.std.specs.Option.{is_some, option_map, option_or}
-use Rattle.gb_base.specs.declared.peers.Link.{Link}
+use Rattle.gb_base.specs.declared.interface.Link.{Link}
 use Rattle.gb_host.specs.Indexes.{Rises}
 use Rattle.gb_host.specs.Named.{end_number}
 use Rattle.gb_machine.specs.Lists.{at_first, without}

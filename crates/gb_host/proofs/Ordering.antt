@@ -1,7 +1,7 @@
 -- Where an interface goes in order.
 use Rattle.std.proofs.Common.{◌≡◌, ℕ, nat_lt, Option, Some, None, List, length, ap, ◌∙◌, sym}
 use Rattle.std.specs.List.{insert, position_from}
-use Rattle.gb_base.specs.declared.peers.Interface.{Interface}
+use Rattle.gb_base.specs.declared.interface.Interface.{Interface}
 use Rattle.gb_machine.proofs.Ordering as ordering
 use Rattle.gb_machine.specs.Host.{intf_before}
 use Rattle.gb_machine.specs.Lists.{in_order}

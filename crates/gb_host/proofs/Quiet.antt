@@ -2,7 +2,7 @@
 use Rattle.std.proofs.Common.{◌≡◌, ℕ, zero, suc, Bool, true, false, cond, None, List, [], ◌∷◌}
 use Rattle.std.proofs.Common.{get_or, set, refl, ap, ◌∙◌}
 use Rattle.std.specs.List.{filter}
-use Rattle.gb_base.specs.declared.peers.Interface.{Interface}
+use Rattle.gb_base.specs.declared.interface.Interface.{Interface}
 use Rattle.gb_host.specs.Changes.{with_module}
 use Rattle.gb_host.specs.Quiet.{AreQuiet}
 use Rattle.gb_machine.specs.Bus.{or_else}

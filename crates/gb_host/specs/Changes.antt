@@ -1,8 +1,8 @@
 -- What changes of interfaces and connections.
 use Rattle.std.specs.Prelude.{◌≡◌, ◌<◌, ℕ, ◌-◌, Option, List, [], ◌∷◌}
 use Rattle.std.specs.Vec.{vec_capacity, vec_len}
-use Rattle.gb_base.specs.declared.peers.Interface.{Interface}
-use Rattle.gb_base.specs.declared.peers.Link.{Link}
+use Rattle.gb_base.specs.declared.interface.Interface.{Interface}
+use Rattle.gb_base.specs.declared.interface.Link.{Link}
 use Rattle.gb_base.specs.declared.steps.SequenceStep.{SequenceStep}
 use Rattle.gb_host.specs.declared.interfaces.Change.{Change}
 use Rattle.gb_host.specs.declared.interfaces.Change.TheVariants as change

@@ -1,7 +1,7 @@
 -- What is kept to look connections up.
 use Rattle.std.specs.Prelude.{◌≡◌, ◌<◌, ◌≤◌, ℕ, Bool, true, None, List, get_or, length}
 use Rattle.std.specs.List.{AllPairs}
-use Rattle.gb_base.specs.declared.peers.Link.{Link}
+use Rattle.gb_base.specs.declared.interface.Link.{Link}
 use Rattle.gb_host.specs.Marks.{Marks}
 use Rattle.gb_host.specs.Named.{AreNamed}
 use Rattle.gb_host.specs.declared.cports.Cports.{Cports}

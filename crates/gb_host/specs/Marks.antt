@@ -1,7 +1,7 @@
 -- Which CPorts of the application processor are marked.
 use Rattle.std.specs.Prelude.{◌≡◌, ◌==◌, ◌<◌, ◌≤◌, ℕ, Bool, true, false, List, get_or, length}
 use Rattle.std.specs.List.{list_any}
-use Rattle.gb_base.specs.declared.peers.Link.{Link}
+use Rattle.gb_base.specs.declared.interface.Link.{Link}
 use Rattle.gb_host.specs.declared.cports.Cports.{Cports}
 
 -- All from 1 to below this number are marked, and it isn't where it is below 4,096.

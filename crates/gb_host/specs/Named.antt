@@ -1,7 +1,7 @@
 -- Which connections are at which far ends.
 use Rattle.std.specs.Prelude.{◌≡◌, ◌+◌, ◌*◌, ◌<◌, ℕ, List, find, nat_eq, option_map}
 use Rattle.std.specs.HashMap.{get}
-use Rattle.gb_base.specs.declared.peers.Link.{Link}
+use Rattle.gb_base.specs.declared.interface.Link.{Link}
 use Rattle.gb_host.specs.declared.ends.Ends.{Ends}
 use Rattle.gb_machine.specs.Host.{is_link}
 

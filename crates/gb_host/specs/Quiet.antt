@@ -1,6 +1,6 @@
 -- Interfaces whose enumerations wait for nothing.
 use Rattle.std.specs.Prelude.{◌≡◌, ⊤, None, List, [], ◌∷◌}
-use Rattle.gb_base.specs.declared.peers.Interface.{Interface}
+use Rattle.gb_base.specs.declared.interface.Interface.{Interface}
 
 -- No enumeration of the interfaces waits.
 abbrev pub AreQuiet : List Interface → Type 0

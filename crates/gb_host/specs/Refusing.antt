@@ -1,6 +1,6 @@
 -- What a call answers that may be refused.
 use Rattle.std.specs.Prelude.{◌≡◌, ℕ, Option, Some, None, option_map, Result, Ok, Err}
-use Rattle.gb_base.specs.declared.peers.Link.{Link}
+use Rattle.gb_base.specs.declared.interface.Link.{Link}
 use Rattle.gb_base.specs.declared.refusal.Refusal.{Refusal}
 
 -- The answer is Ok exactly where nothing is refused, and else the refusal.

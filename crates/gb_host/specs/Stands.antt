@@ -1,6 +1,6 @@
 -- What the value of an application processor stands for.
 use Rattle.std.specs.Prelude.{◌≡◌, ℕ, Some, None, if◌then◌else◌}
-use Rattle.gb_base.specs.declared.peers.Interface.{Interface}
+use Rattle.gb_base.specs.declared.interface.Interface.{Interface}
 use Rattle.gb_host.specs.Changes.{HasRoom}
 use Rattle.gb_host.specs.declared.host.Host.{Host}
 use Rattle.gb_host.specs.declared.host.IntfView.{IntfView}

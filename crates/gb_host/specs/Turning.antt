@@ -7,7 +7,7 @@ use Rattle.gb_base.specs.declared.entry.IntfStage.TheVariants as stage
 use Rattle.gb_base.specs.declared.errors.OutOfMemory.{OutOfMemory}
 use Rattle.gb_base.specs.declared.host_event.HostEvent.TheVariants as host_event
 use Rattle.gb_base.specs.declared.host_event.HostEvent.{HostEvent}
-use Rattle.gb_base.specs.declared.peers.Link.{Link}
+use Rattle.gb_base.specs.declared.interface.Link.{Link}
 use Rattle.gb_base.specs.declared.steps.SequenceStep.TheVariants as steps
 use Rattle.gb_host.specs.Stands.{IsPending, IsUnchanged, host_of}
 use Rattle.gb_host.specs.declared.acts.Act.{Act}
@@ -32,7 +32,7 @@ asks q = act.Ask q.on q.kind q.payload q.purpose
 -- then its request.
 abbrev pub spelled_act : turns.Act → List Act
 spelled_act (turns.Act.Ask q) = asks q ∷ []
-spelled_act (turns.Act.Open m q) =
+spelled_act (turns.Act.Make m q) =
     act.Make m.ap m.intf m.cport m.protocol q.purpose ∷ asks q ∷ []
 spelled_act (turns.Act.Shut k) = act.Shut k ∷ []
 spelled_act (turns.Act.Leave k) = act.Leave k ∷ []
@@ -67,7 +67,7 @@ begun (i ∷ is) = begins i ++ begun is
 -- what an act makes is pending, and the rest holds
 abbrev pub PendsWith : turns.Act → Host → Type 0 → Type 0
 PendsWith (turns.Act.Ask q) x Others = Others
-PendsWith (turns.Act.Open m q) x Others = IsPending m.ap m.protocol x × Others
+PendsWith (turns.Act.Make m q) x Others = IsPending m.ap m.protocol x × Others
 PendsWith (turns.Act.Shut k) x Others = Others
 PendsWith (turns.Act.Leave k) x Others = Others
 PendsWith (turns.Act.Tell e) x Others = Others

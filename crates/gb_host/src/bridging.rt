@@ -1,7 +1,7 @@
 //! Bridge lines and the answers to them.
 
 ghost use Rattle.std.specs.Prelude.{◌≡◌, Some, None, Err, length};
-ghost use Rattle.gb_base.specs.declared.peers.Link.{Link};
+ghost use Rattle.gb_base.specs.declared.interface.Link.{Link};
 ghost use Rattle.gb_base.specs.declared.refusal.Refusal.TheVariants as why;
 ghost use Rattle.gb_bridge_payload.specs.Serving.{BridgesAs};
 ghost use Rattle.gb_formats.specs.Bridges.{bridge_answer, credits_taken, reading_of};

@@ -3,7 +3,7 @@
 ghost use Rattle.std.specs.Prelude.{◌≡◌, ◌==◌, ◌<◌, ◌≤◌, ◌∷◌, [], ◌++◌, None, IfOk, IfSome, List};
 ghost use Rattle.std.specs.Prelude.{OnOk, find, length, set};
 ghost use Rattle.std.specs.List.{list_any, position_from};
-ghost use Rattle.gb_base.specs.declared.peers.Link.{Link};
+ghost use Rattle.gb_base.specs.declared.interface.Link.{Link};
 ghost use Rattle.gb_host.specs.Indexes.{AreIdle};
 ghost use Rattle.gb_machine.specs.Host.{in_state, is_link};
 ghost use Rattle.gb_machine.specs.HostServing.{with_credits};

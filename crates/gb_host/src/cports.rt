@@ -3,7 +3,7 @@
 ghost use Rattle.std.specs.Prelude.{◌≡◌, ◌==◌, ◌<◌, ◌≤◌, ◌∷◌, [], ◌++◌, ℕ, IfOk, List, true};
 ghost use Rattle.std.specs.Prelude.{false, get_or};
 ghost use Rattle.std.specs.List.{list_any};
-ghost use Rattle.gb_base.specs.declared.peers.Link.{Link};
+ghost use Rattle.gb_base.specs.declared.interface.Link.{Link};
 ghost use Rattle.gb_host.specs.Marks.{Marks};
 ghost use Rattle.gb_machine.specs.Lists.{first_free};
 

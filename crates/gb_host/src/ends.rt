@@ -1,7 +1,7 @@
 //! The connections by their far ends.
 
 ghost use Rattle.std.specs.Prelude.{◌≡◌, ◌==◌, ◌<◌, ◌∷◌, [], ◌++◌, true, List, find, option_map};
-ghost use Rattle.gb_base.specs.declared.peers.Link.{Link};
+ghost use Rattle.gb_base.specs.declared.interface.Link.{Link};
 ghost use Rattle.gb_host.specs.Named.{end_number};
 ghost use Rattle.gb_machine.specs.Host.{is_link};
 ghost use Rattle.gb_machine.specs.Lists.{without};

@@ -4,7 +4,7 @@ ghost use Rattle.std.specs.Prelude.{◌≡◌, ◌<◌, ◌≤◌, ◌+◌, nat_
 ghost use Rattle.std.specs.Prelude.{OnOk, find, insert, length, map, option_copied, true};
 ghost use Rattle.std.specs.List.{filter, list_any, position_from};
 ghost use Rattle.std.specs.Vec.{vec_capacity, vec_len};
-ghost use Rattle.gb_base.specs.declared.peers.Interface.{Interface};
+ghost use Rattle.gb_base.specs.declared.interface.Interface.{Interface};
 ghost use Rattle.gb_host.specs.Changes.{with_module};
 ghost use Rattle.gb_host.specs.declared.interfaces.Change.TheVariants as change;
 ghost use Rattle.gb_host.specs.Quiet.{AreQuiet};
@@ -46,7 +46,7 @@ pub struct Interfaces {
 
 impl Model for Interfaces {
     ghost use Rattle.std.specs.Prelude.{◌≡◌, true, List};
-    ghost use Rattle.gb_base.specs.declared.peers.Interface.{Interface};
+    ghost use Rattle.gb_base.specs.declared.interface.Interface.{Interface};
 
     ghost Value = { List Interface };
 

@@ -6,7 +6,7 @@ use Rattle.gb_base.specs.declared.entry.{ConnState.ConnState, Entry.Entry}
 use Rattle.gb_base.specs.declared.host_event.HostEvent.TheVariants as host_event
 use Rattle.gb_base.specs.declared.host_event.HostEvent.{HostEvent}
 use Rattle.gb_base.specs.declared.outcome.Outcome.{Outcome}
-use Rattle.gb_base.specs.declared.peers.{Interface.Interface, Link.Link}
+use Rattle.gb_base.specs.declared.interface.{Interface.Interface, Link.Link}
 use Rattle.gb_base.specs.declared.steps.{Purpose.Purpose, SequenceStep.SequenceStep}
 use Rattle.gb_base.specs.declared.entry.ConnState.TheVariants as state
 use Rattle.gb_base.specs.declared.entry.Entry.TheVariants as entry
@@ -272,7 +272,7 @@ pub record TurnLaw (o : Occasion) : Type 1 where
 -- an act asks for nothing
 abbrev pub AsksNone : Act → Type 0
 AsksNone (Act.Ask q) = ⊥
-AsksNone (Act.Open w q) = ⊥
+AsksNone (Act.Make w q) = ⊥
 AsksNone _ = Unit {0}
 
 -- Changes ask for nothing: a request ends its turn.

@@ -11,6 +11,7 @@ pub mod HostChanges
 pub mod Items
 pub mod Labels
 pub mod Lists
+pub mod Manifests
 pub mod ModuleHosts
 pub mod ModuleTurns
 pub mod Numbers
@@ -18,5 +19,7 @@ pub mod OneItem
 pub mod Outcomes
 pub mod OverFailures
 pub mod OverTurns
+pub mod Places
+pub mod Requests
 pub mod Selves
 pub mod Wires

@@ -6,7 +6,7 @@ use Rattle.std.proofs.lemmas.Bool.Decides.{nat_tests}
 use Rattle.std.specs.List.{filter}
 use Rattle.std.specs.Prelude.{not, ◌==◌}
 use Rattle.gb_base.specs.declared.host_event.HostEvent.TheVariants as host_event
-use Rattle.gb_base.specs.declared.peers.{Interface.Interface}
+use Rattle.gb_base.specs.declared.interface.{Interface.Interface}
 use Rattle.gb_machine.proofs.Opened.{machine_opened}
 use Rattle.gb_machine.specs.Actions.{Told, each}
 use Rattle.gb_machine.specs.Host.{Host, has_primary, interface_of, interfaces_of, intf_before}

@@ -5,7 +5,7 @@ use Rattle.std.specs.Prelude.{Err, Ok, Result, option_and_then, ◌==◌}
 use Rattle.gb_base.specs.declared.host_event.HostEvent.TheVariants as host_event
 use Rattle.gb_base.specs.declared.host_event.HostEvent.{HostEvent}
 use Rattle.gb_base.specs.declared.outcome.Outcome.{Outcome}
-use Rattle.gb_base.specs.declared.peers.{Interface.Interface, Link.Link}
+use Rattle.gb_base.specs.declared.interface.{Interface.Interface, Link.Link}
 use Rattle.gb_base.specs.declared.steps.{Purpose.Purpose, SequenceStep.SequenceStep}
 use Rattle.gb_base.specs.declared.entry.ConnState.TheVariants as state
 use Rattle.gb_base.specs.declared.entry.Entry.TheVariants as entry

@@ -9,12 +9,14 @@ pub mod FirmwareQueues
 pub mod NextPieces
 pub mod Running
 pub mod RunningMoved
-pub mod FirmwareOnward
+pub mod MomentToPoint
 pub mod RunningStays
 pub mod PiecesKnown
 pub mod RunningNew
 pub mod HeardBack
 pub mod RunningKept
+pub mod RunningAsks
+pub mod RunningBegins
 pub mod RunningGoes
 pub mod KeptImages
 pub mod RunningRests

@@ -29,3 +29,4 @@ pub mod Turned
 pub mod ActsFit
 pub mod Controls
 pub mod Reading
+pub mod Possible

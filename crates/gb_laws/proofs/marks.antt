@@ -13,3 +13,4 @@ pub mod MarkHosts
 pub mod MarkKnown
 pub mod MarkFrame
 pub mod MarkMoments
+pub mod Noted

@@ -6,9 +6,9 @@ pub mod ChangeBuses
 pub mod ChangeHosts
 pub mod Awaited
 pub mod Pulls
-pub mod Onward
+pub mod PointToPoint
 pub mod Places
-pub mod Since
+pub mod ToldSince
 pub mod Silent
 pub mod Happened
 pub mod Overdue

@@ -6,4 +6,5 @@ pub mod Settling
 pub mod AllRuns
 pub mod Midway
 pub mod Noticing
+pub mod OfStates
 pub mod Reached

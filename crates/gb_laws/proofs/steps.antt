@@ -1,5 +1,6 @@
 -- Steps: a law goes over the actions of the machine, and over the step of each event.
 pub mod LoaderStays
+pub mod LoadersPlugged
 pub mod LoaderEnds
 pub mod LoadFailures
 pub mod StepActions

@@ -1,3 +1,4 @@
+pub mod BridgeAnswers
 pub mod Conditions
 pub mod Exploration
 pub mod HotPlugTests

@@ -9,11 +9,11 @@ use Rattle.gb_machine.specs.Asking.{asks, asks_with}
 use Rattle.gb_machine.specs.Events.{decided, does, shows, step}
 use Rattle.gb_machine.specs.GivingUp.{cancels, gives_up, ticks, times_out}
 use Rattle.gb_machine.specs.HostActs.{acts, asked_with, drains, fails, follows, host_asks}
-use Rattle.gb_machine.specs.HostActs.{host_follows, host_opens, idles, idles_behind, notices}
-use Rattle.gb_machine.specs.HostActs.{opened_with, turns}
+use Rattle.gb_machine.specs.HostActs.{host_follows, host_makes, idles, idles_behind, notices}
+use Rattle.gb_machine.specs.HostActs.{made_with, turns}
 use Rattle.gb_machine.specs.Labels.{free_label}
 use Rattle.gb_machine.specs.LineActions.{answers, answers_at, answers_held, bridge_sent, bridges}
-use Rattle.gb_machine.specs.LineActions.{copies, holds, injects, injects_at, sends, sends_on}
+use Rattle.gb_machine.specs.LineActions.{copies, injects, injects_at, sends, sends_on}
 use Rattle.gb_machine.specs.LineActions.{serves_held, stirred, stirs}
 use Rattle.gb_machine.specs.Lists.{first_free}
 use Rattle.gb_machine.specs.Loading.{asks_at, asks_next, begins, fails_unasked, goes_on, load_ended}
@@ -38,8 +38,8 @@ bus_opened = tt
 
 -- the application processor's acts
 unfoldable pub host_opened : ⊤
-unfolding acts asked_with drains fails follows host_asks host_follows host_opens idles
-    idles_behind notices opened_with turns
+unfolding acts asked_with drains fails follows host_asks host_follows host_makes idles
+    idles_behind notices made_with turns
 host_opened = tt
 
 -- serving
@@ -55,7 +55,7 @@ delivering_opened = tt
 
 -- the lines of a script
 unfoldable pub lines_opened : ⊤
-unfolding answers answers_at answers_held boots bridge_sent bridges cancels copies gives_up holds
+unfolding answers answers_at answers_held boots bridge_sent bridges cancels copies gives_up
     injects injects_at plugs pulls pulls_module pulls_one sends sends_on serves_held settles
     settles_at settles_from shows stirred stirs tells_inserted tells_removed ticks times_out
 lines_opened = tt

@@ -11,7 +11,7 @@ use Rattle.gb_formats.specs.Texts.{entries_text}
 use Rattle.gb_machine.specs.Events.{step, trace_from}
 use Rattle.gb_machine.specs.Report.{report_from, reported}
 use Rattle.gb_machine.specs.Runs.{AreValid}
-use Rattle.gb_machine.specs.ScriptRuns.{Line, ReportsAreTraced, bad_line_text, bad_text, line_onto}
+use Rattle.gb_machine.specs.ScriptRuns.{IsTraced, Line, bad_line_text, bad_text, line_onto}
 use Rattle.gb_machine.specs.ScriptRuns.{lines_from, told_text}
 use Rattle.gb_machine.specs.State.{State, first_state}
 
@@ -58,7 +58,7 @@ lines-traced hex n (line ∷ ls) s =
     (λ t. report_from hex (n + 1) t ls) (λ t. lines-traced hex (n + 1) ls t)
 
 -- Every report is that of a run of valid events.
-pub reports-traced : ReportsAreTraced
+pub reports-traced : (hex : Bool) (text : List ℕ) → IsTraced hex text
 reports-traced hex text = record {
   valid = lines-valid 1 (lines text);
   report_is = lines-traced hex 1 (lines text) first_state;

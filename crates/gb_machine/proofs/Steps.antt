@@ -13,7 +13,7 @@ use Rattle.gb_base.specs.declared.host_event.HostEvent.{HostEvent}
 use Rattle.gb_base.specs.declared.host_event.HostEvent.TheVariants as host_event
 use Rattle.gb_base.specs.declared.outcome.Outcome.{Outcome}
 use Rattle.gb_base.specs.declared.outcome.Outcome.TheVariants as outcome
-use Rattle.gb_base.specs.declared.peers.Link.{Link}
+use Rattle.gb_base.specs.declared.interface.Link.{Link}
 use Rattle.gb_base.specs.declared.refusal.Refusal.{Refusal}
 use Rattle.gb_base.specs.declared.served.OwnAsk.{OwnAsk}
 use Rattle.gb_base.specs.declared.steps.Purpose.{Purpose}
@@ -35,7 +35,7 @@ use Rattle.gb_machine.specs.Delivery.{forgotten, popped}
 use Rattle.gb_machine.specs.Events.{decided, does, step}
 use Rattle.gb_machine.specs.Host.{link_at}
 use Rattle.gb_machine.specs.HostActs.{acts, asked_with, host_asks, host_draft, host_follows}
-use Rattle.gb_machine.specs.HostActs.{idles, idles_behind, made_for, notices, opened_with}
+use Rattle.gb_machine.specs.HostActs.{idles, idles_behind, made_for, notices, made_with}
 use Rattle.gb_machine.specs.HostActs.{with_awaited, with_made}
 use Rattle.gb_machine.specs.HostTurns.{host_turn}
 use Rattle.gb_machine.specs.Incoming.{incoming}
@@ -260,7 +260,7 @@ asks-beside d ms ls p s = by (connection_of d.connection s.bus) (label_for d s.b
         oneway d.oneway (asked d c label s.bus)
         (entry.Ended (next_number s.bus) outcome.Sent reading.Nothing) (sent d label s.bus)
 
-far_asks-beside : (k : ℕ) (own : OwnAsk) (ms : List Plugged) (ls : List Load) (p : Past)
+pub far_asks-beside : (k : ℕ) (own : OwnAsk) (ms : List Plugged) (ls : List Load) (p : Past)
     (s : State) → far_asks k own (beside ms ls p s)
     ≡ told (with_bus (far_asks k own s).state.bus (beside ms ls p s)) (far_asks k own s).entries
 unfolding machine_opened
@@ -342,9 +342,9 @@ host_asks-loads q s = by (next_label q.on side.Ap s.bus)
 act-loads : (a : Act) (s : State) → (acts a s).state.loads ≡ s.loads
 unfolding machine_opened
 act-loads (Act.Ask q) s = host_asks-loads q s
-act-loads (Act.Open m q) s = by (next_label q.on side.Ap s.bus)
+act-loads (Act.Make m q) s = by (next_label q.on side.Ap s.bus)
   where
-    by : (o : Option ℕ) → (opened_with o m q s).state.loads ≡ s.loads
+    by : (o : Option ℕ) → (made_with o m q s).state.loads ≡ s.loads
     by None = refl
     by (Some label) = host_asks-loads q (with_made m s)
 act-loads (Act.Shut k) s = refl

@@ -7,17 +7,19 @@ use Rattle.gb_base.specs.declared.host_event.HostEvent.TheVariants as host_event
 use Rattle.gb_base.specs.declared.refusal.Refusal.{Refusal}
 use Rattle.gb_formats.specs.Devices.{Level, Serial}
 use Rattle.gb_formats.specs.Module.{module_of_kind, module_raw}
-use Rattle.gb_machine.specs.Actions.{Action, Told, by_state, change, on_host, tell, tell_all, ◌▸◌}
+use Rattle.gb_machine.specs.Actions.{Action, Told, by_state, change, given, on_host, tell}
+use Rattle.gb_machine.specs.Actions.{tell_all, ◌▸◌}
 use Rattle.gb_machine.specs.Arriving.{delivers}
 use Rattle.gb_machine.specs.GivingUp.{cancels, ticks}
+use Rattle.gb_machine.specs.Holding.{marked}
 use Rattle.gb_machine.specs.Host.{with_given}
 use Rattle.gb_machine.specs.HostActs.{drains, notices}
-use Rattle.gb_machine.specs.LineActions.{answers, ap_draft, bridges, copies, holds, injects, sends}
+use Rattle.gb_machine.specs.LineActions.{answers, ap_draft, bridges, copies, injects, sends}
 use Rattle.gb_machine.specs.LineActions.{stirs}
 use Rattle.gb_machine.specs.Loading.{loads}
 use Rattle.gb_machine.specs.Names.{freed}
 use Rattle.gb_machine.specs.Plugging.{boots, plugs, pulls}
-use Rattle.gb_machine.specs.Refusals.{refusal}
+use Rattle.gb_machine.specs.Refusals.{module_place, refusal}
 use Rattle.gb_machine.specs.Sending.{Draft}
 use Rattle.gb_machine.specs.Settling.{settles}
 use Rattle.gb_machine.specs.Show.{shown}
@@ -26,6 +28,15 @@ use Rattle.gb_machine.specs.State.{State, first_state}
 -- a request of the application processor to the supervisory controller
 abbrev pub svc_draft : ℕ → List ℕ → ℕ → Draft
 svc_draft kind payload deadline = ap_draft 1 kind payload deadline
+
+-- the connection with this number has the hold mark
+abbrev pub with_hold : ℕ → State → State
+with_hold k s = record s { holds = marked k s.holds }
+
+-- Requests that are delivered to a module's CPort are held.
+abbrev pub holds : ℕ → ℕ → Action
+holds i c = by_state (λ s. given (module_place i c s)
+    (λ p. change (with_hold p.connection.number)))
 
 -- the state is shown
 unfoldable pub shows : Action

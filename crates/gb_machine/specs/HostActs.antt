@@ -6,7 +6,7 @@ use Rattle.gb_base.specs.declared.entry.Entry.TheVariants as entry
 use Rattle.gb_base.specs.declared.host_event.HostEvent.TheVariants as host_event
 use Rattle.gb_base.specs.declared.host_event.HostEvent.{HostEvent}
 use Rattle.gb_base.specs.declared.outcome.Outcome.{Outcome}
-use Rattle.gb_base.specs.declared.peers.Link.{Link}
+use Rattle.gb_base.specs.declared.interface.Link.{Link}
 use Rattle.gb_base.specs.declared.steps.Purpose.{Purpose}
 use Rattle.gb_formats.specs.Grammar.{default_timeout}
 use Rattle.gb_machine.specs.Actions.{Action, by_state, change, each, given, on_bus, on_host}
@@ -71,21 +71,21 @@ with_made m s = record s {
 }
 
 -- A connection is made, and then the request for it; neither is where no identifier is left.
-unfoldable pub opened_with : Option ℕ → Making → Asking → Action
-opened_with None m q = fails (unsent q.purpose)
-opened_with (Some label) m q = by_state (λ s.
+unfoldable pub made_with : Option ℕ → Making → Asking → Action
+made_with None m q = fails (unsent q.purpose)
+made_with (Some label) m q = by_state (λ s.
     change (with_made m)
     ▸ tell (entry.Connection (next_connection s.bus) m.ap m.intf m.cport state.Opening)
     ▸ host_asks q)
 
 -- The application processor makes a connection.
-unfoldable pub host_opens : Making → Asking → Action
-host_opens m q = by_state (λ s. opened_with (next_label q.on side.Ap s.bus) m q)
+unfoldable pub host_makes : Making → Asking → Action
+host_makes m q = by_state (λ s. made_with (next_label q.on side.Ap s.bus) m q)
 
 -- An act is done.
 unfoldable pub acts : Act → Action
 acts (Act.Ask q) = host_asks q
-acts (Act.Open m q) = host_opens m q
+acts (Act.Make m q) = host_makes m q
 acts (Act.Shut k) = shuts k
 acts (Act.Leave k) = on_bus (detached k)
 acts (Act.Tell e) = tell e

@@ -9,7 +9,7 @@ use Rattle.gb_base.specs.declared.entry.ConnState.TheVariants as state
 use Rattle.gb_base.specs.declared.entry.IntfStage.{IntfStage}
 use Rattle.gb_base.specs.declared.entry.IntfStage.TheVariants as stage
 use Rattle.gb_base.specs.declared.refusal.Refusal.TheVariants as why
-use Rattle.gb_base.specs.declared.peers.Link.{Link}
+use Rattle.gb_base.specs.declared.interface.Link.{Link}
 use Rattle.gb_formats.specs.Bridges.{ask_protocol, credits_taken, is_too_large}
 use Rattle.gb_formats.specs.Images.{image_of}
 use Rattle.gb_formats.specs.Manifest.{CportView}

@@ -10,7 +10,7 @@ use Rattle.gb_base.specs.declared.event.Event.TheVariants as event
 use Rattle.gb_base.specs.declared.name.Name.{Name}
 use Rattle.gb_base.specs.declared.outcome.Outcome.{Outcome}
 use Rattle.gb_base.specs.declared.outcome.Outcome.TheVariants as outcome
-use Rattle.gb_base.specs.declared.peers.Link.{Link}
+use Rattle.gb_base.specs.declared.interface.Link.{Link}
 use Rattle.gb_formats.specs.Message.{message_size, response, spelling}
 use Rattle.gb_machine.specs.Bus.{Connection, Reply, Request, connection_of, end_of, other_side}
 use Rattle.gb_machine.specs.Bus.{request_of}

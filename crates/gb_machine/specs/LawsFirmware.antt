@@ -7,7 +7,7 @@ use Rattle.gb_base.specs.declared.end.Side.TheVariants as side
 use Rattle.gb_base.specs.declared.entry.Entry.{Entry}
 use Rattle.gb_base.specs.declared.entry.Entry.TheVariants as entry
 use Rattle.gb_base.specs.declared.event.Event.TheVariants as event
-use Rattle.gb_base.specs.declared.peers.Link.{Link}
+use Rattle.gb_base.specs.declared.interface.Link.{Link}
 use Rattle.gb_formats.specs.FirmwareRecords.{FirmwareAsk, read_firmware_ask}
 use Rattle.gb_formats.specs.Images.{Image, image_of, lent_bytes}
 use Rattle.gb_formats.specs.Message.{response, spelling}

@@ -1,4 +1,4 @@
--- The actions of the lines of a script that ask, hold, answer, inject and stir.
+-- The actions of the lines of a script that ask, answer, inject and stir.
 use Rattle.std.specs.Prelude.{ℕ, ◌+◌, ◌-◌, false, if◌then◌else◌, Result, Ok, Err, List, [], ◌∷◌}
 use Rattle.std.specs.Prelude.{◌++◌, length}
 use Rattle.gb_base.specs.declared.bridge.BridgeAsk.{BridgeAsk}
@@ -7,7 +7,7 @@ use Rattle.gb_base.specs.declared.end.End.TheVariants as end
 use Rattle.gb_base.specs.declared.end.Side.TheVariants as side
 use Rattle.gb_base.specs.declared.entry.Entry.TheVariants as entry
 use Rattle.gb_base.specs.declared.name.Name.{Name}
-use Rattle.gb_base.specs.declared.peers.Link.{Link}
+use Rattle.gb_base.specs.declared.interface.Link.{Link}
 use Rattle.gb_formats.specs.Bridges.{BridgeFault, bridge_answer, credits_taken}
 use Rattle.gb_formats.specs.Grammar.{default_timeout}
 use Rattle.gb_formats.specs.Devices.{Stir}
@@ -19,7 +19,7 @@ use Rattle.gb_machine.specs.Actions.{tell, ◌▸◌}
 use Rattle.gb_machine.specs.Arriving.{dropped, takes}
 use Rattle.gb_machine.specs.Asking.{asks}
 use Rattle.gb_machine.specs.Bus.{Item, Place, next_number}
-use Rattle.gb_machine.specs.Holding.{held_on, held_without, marked}
+use Rattle.gb_machine.specs.Holding.{held_on, held_without}
 use Rattle.gb_machine.specs.Host.{link_at, with_link}
 use Rattle.gb_machine.specs.Incoming.{request_in}
 use Rattle.gb_machine.specs.Lists.{nth}
@@ -72,15 +72,6 @@ unfoldable pub copies : Name → Name → Action
 copies x y = by_state (λ s. given (named x s.names) (λ n. change (bound y n)))
 
 -- ---- what is held
-
--- the wired connection at a module's CPort has the hold mark
-abbrev pub with_hold : ℕ → State → State
-with_hold k s = record s { holds = marked k s.holds }
-
--- Requests that are delivered to a module's CPort are held.
-unfoldable pub holds : ℕ → ℕ → Action
-holds i c = by_state (λ s. given (module_place i c s)
-    (λ p. change (with_hold p.connection.number)))
 
 -- a held request is served, or dropped where its CPort is off
 unfoldable pub serves_held : Place → Item → Action

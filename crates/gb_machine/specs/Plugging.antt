@@ -52,8 +52,8 @@ plugs primary ms = by_state (λ s.
 abbrev pub wired_numbers : ℕ → Bus → List ℕ
 wired_numbers i b = map (λ c. c.number) (filter (is_wired_to i) b.connections)
 
--- what was plugged at an interface is pulled: its power level, its device id and its downloads are
--- gone
+-- what was plugged at an interface is pulled: its power level, its device id and its downloads
+-- are gone
 abbrev pub with_pulled : ℕ → State → State
 with_pulled i s = record s {
   modules = unplugged i s.modules;

@@ -64,7 +64,3 @@ trace_text hex text =
 pub record IsTraced (hex : Bool) (text : List ℕ) : Type 0 where
   pub valid : AreValid (script_events text)
   pub report_is : report hex text ≡ trace_text hex text
-
--- Every report is that of a run of valid events.
-abbrev pub ReportsAreTraced : Type 0
-ReportsAreTraced = (hex : Bool) (text : List ℕ) → IsTraced hex text

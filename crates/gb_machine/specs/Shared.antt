@@ -4,7 +4,7 @@ use Rattle.std.specs.Prelude.{Some, None, is_none, if◌then◌else◌, List, []
 use Rattle.std.specs.List.{list_any}
 use Rattle.gb_base.specs.declared.entry.Entry.TheVariants as entry
 use Rattle.gb_base.specs.declared.event.Event.{Event}
-use Rattle.gb_base.specs.declared.fault.LineReason.{LineReason}
+use Rattle.gb_base.specs.declared.reasons.LineReason.{LineReason}
 use Rattle.gb_base.specs.declared.name.Name.{Name}
 use Rattle.gb_base.specs.declared.parts.Asked.{Asked}
 use Rattle.gb_base.specs.declared.refusal.Refusal.TheVariants as why

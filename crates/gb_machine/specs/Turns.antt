@@ -22,7 +22,7 @@ pub record Making : Type 0 where
 -- connection is closed; a connection is given up; something is told.
 pub data Act : Type 0 where
   Ask : Asking → Act
-  Open : Making → Asking → Act
+  Make : Making → Asking → Act
   Shut : ℕ → Act
   Leave : ℕ → Act
   Tell : Entry → Act

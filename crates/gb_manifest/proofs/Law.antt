@@ -20,7 +20,7 @@ use Rattle.gb_manifest.specs.Checks.{Answers}
 use Rattle.gb_manifest.specs.declared.refusal.Refused as code
 use Rattle.gb_manifest.specs.Walks.{walk_from}
 use Rattle.gb_manifest.proofs.Checked.{answer_rules}
-use Rattle.gb_manifest.proofs.Fronts.{spelt_at, read_back}
+use Rattle.gb_manifest.proofs.DescriptorBytes.{spelt_at, read_back}
 use Rattle.gb_manifest.proofs.Spelt.{sound, unrefused}
 use Rattle.gb_manifest.proofs.Walks.{walk_from-empty, walk_from-front, walk_from-refused}
 

@@ -1,7 +1,7 @@
 pub mod Breaches
 pub mod Checked
 pub mod Declarations
-pub mod Fronts
+pub mod DescriptorBytes
 pub mod Gathered
 pub mod Law
 pub mod Listing

@@ -3,7 +3,7 @@ use Rattle.std.proofs.Common.{◌≡◌, ℕ, ◌+◌, Bool, true, false, List, 
 use Rattle.std.proofs.Common.{Some, None, refl, sym, ap, ◌∙◌, option_map}
 use Rattle.std.specs.Prelude.{◌&&◌, ◌||◌, ◌==◌, not, is_some, if◌then◌else◌}
 use Rattle.std.specs.List.{list_any}
-use Rattle.gb_base.specs.declared.fault.Reason.{Reason}
+use Rattle.gb_base.specs.declared.reasons.Reason.{Reason}
 use Rattle.gb_formats.specs.Descriptors.{Descriptor, least_size}
 use Rattle.gb_formats.specs.ManifestRules.{Placed, Refused, breach, bundle_twice, cport_above}
 use Rattle.gb_formats.specs.ManifestRules.{cport_twice, first_breach, first_of, has, is_bundle}

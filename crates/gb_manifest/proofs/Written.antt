@@ -3,7 +3,7 @@ use Rattle.std.proofs.Common.{◌≡◌, ◌<◌, ◌≤◌, ℕ, ◌+◌, Bool,
 use Rattle.std.proofs.Common.{map, Option, Some, None, Ok, Err, refl, sym, ap, ◌∙◌, arith}
 use Rattle.std.specs.Prelude.{nat_lt, if◌then◌else◌}
 use Rattle.std.proofs.lemmas.Bool.Decides.{nat_tests}
-use Rattle.gb_base.specs.declared.fault.Reason.{Reason}
+use Rattle.gb_base.specs.declared.reasons.Reason.{Reason}
 use Rattle.gb_formats.specs.Bytes.{le16}
 use Rattle.gb_formats.specs.Descriptors.{Descriptor, least_size}
 use Rattle.gb_formats.specs.Manifest.{IsManifest, check_answer}

@@ -6,8 +6,8 @@ use Rattle.std.specs.Prelude.{⊤, nat_lt, if◌then◌else◌}
 use Rattle.std.specs.List.{concat, flat_map, list_any}
 use Rattle.std.proofs.lemmas.Bool.Decides.{nat_tests}
 use Rattle.gb_base.specs.Bytes.{AreBytes}
-use Rattle.gb_base.specs.declared.fault.Reason.{Reason}
-use Rattle.gb_base.specs.declared.fault.Reason.TheVariants as reason
+use Rattle.gb_base.specs.declared.reasons.Reason.{Reason}
+use Rattle.gb_base.specs.declared.reasons.Reason.TheVariants as reason
 use Rattle.gb_formats.specs.Descriptors.{Descriptor, IsDescriptor, least_size}
 use Rattle.gb_formats.specs.Descriptors.{plain_descriptor}
 use Rattle.gb_formats.specs.Manifest.{AreDescriptors, IsManifest, Manifest}

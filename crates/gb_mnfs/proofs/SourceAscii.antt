@@ -4,9 +4,9 @@ use Rattle.std.proofs.Common.{codes, IsAscii, ◌∙◌, sym, subst, arith, Opti
 use Rattle.std.specs.Prelude.{◌==◌, IsSomeAnd}
 use Rattle.std.specs.List.{flat_map}
 use Rattle.std.proofs.lemmas.Bool.Decides.{nat_tests}
-use Rattle.gb_base.specs.declared.fault.MnfsReason.{MnfsReason}
-use Rattle.gb_base.specs.declared.fault.MnfsReason.TheVariants as mnfs
-use Rattle.gb_base.specs.declared.fault.Reason.{Reason}
+use Rattle.gb_base.specs.declared.reasons.MnfsReason.{MnfsReason}
+use Rattle.gb_base.specs.declared.reasons.MnfsReason.TheVariants as mnfs
+use Rattle.gb_base.specs.declared.reasons.Reason.{Reason}
 use Rattle.gb_formats.specs.Bytes.{byte_text}
 use Rattle.gb_formats.specs.ManifestSpec.{BundleSpec, CportSpec, ManifestSpec, StringSpec}
 use Rattle.gb_formats.specs.ManifestSpec.{WriteFault}
@@ -17,7 +17,7 @@ use Rattle.gb_formats.specs.SourceTexts.{escaped_byte, header_lines, inner_byte,
 use Rattle.gb_formats.specs.SourceTexts.{is_plain_byte, later_bytes, lines_text, mnfs_reason_text}
 use Rattle.gb_formats.specs.SourceTexts.{source_fault_text, source_text, string_lines, string_value}
 use Rattle.gb_formats.specs.Texts.{ended}
-use Rattle.gb_report.proofs.DumpAscii.{because, byte, cat, dec, end_of_line, is_ascii, seen}
+use Rattle.gb_formats.proofs.Ascii.{because, byte, cat, dec, end_of_line, is_ascii, seen}
 use Rattle.gb_mnfs.proofs.SourceText.{lines_text-append}
 
 -- ---- strings

@@ -1,7 +1,7 @@
 -- What is read of a text, line by line, and what is made of it.
 use Rattle.std.proofs.Common.{◌≡◌, ℕ, ◌+◌, List, [], ◌∷◌, refl, sym, ap, ◌∙◌}
 use Rattle.std.proofs.Common.{Result, Ok, Err}
-use Rattle.gb_base.specs.declared.fault.MnfsReason.{MnfsReason}
+use Rattle.gb_base.specs.declared.reasons.MnfsReason.{MnfsReason}
 use Rattle.gb_formats.specs.Lines.{lines}
 use Rattle.gb_formats.specs.ManifestSpec.{ManifestSpec, write_answer}
 use Rattle.gb_formats.specs.Source.{Front, IsSource, Opened, SourceFault, at_start}

@@ -1,8 +1,8 @@
 -- What a draft stands for, and what is answered where it takes a line.
 use Rattle.std.specs.Prelude.{◌≡◌, ℕ, ⊤, if◌then◌else◌, Option, Some, None, option_map, Result}
 use Rattle.std.specs.Prelude.{Ok, Err, List}
-use Rattle.gb_base.specs.declared.fault.MnfsReason.{MnfsReason}
-use Rattle.gb_base.specs.declared.fault.MnfsReason.TheVariants as mnfs
+use Rattle.gb_base.specs.declared.reasons.MnfsReason.{MnfsReason}
+use Rattle.gb_base.specs.declared.reasons.MnfsReason.TheVariants as mnfs
 use Rattle.gb_formats.specs.Source as source
 use Rattle.gb_formats.specs.Source.{Front, empty_spec, first_lacking, is_header, missing_line}
 use Rattle.gb_formats.specs.Source.{is_interface_section, sections_of, some_section, spec_with}

@@ -1,7 +1,7 @@
 -- What sections and forms of lines in the code stand for.
 use Rattle.std.specs.Prelude.{◌≡◌, ℕ, ⊤, Option, Some, None, option_map, Result, Ok, Err, List}
-use Rattle.gb_base.specs.declared.fault.MnfsReason.{MnfsReason}
-use Rattle.gb_base.specs.declared.fault.MnfsReason.TheVariants as mnfs
+use Rattle.gb_base.specs.declared.reasons.MnfsReason.{MnfsReason}
+use Rattle.gb_base.specs.declared.reasons.MnfsReason.TheVariants as mnfs
 use Rattle.gb_formats.specs.SourceLines as formats
 use Rattle.gb_formats.specs.SourceValues.{source_number}
 use Rattle.gb_mnfs.specs.declared.fault.LineStop.{LineStop}

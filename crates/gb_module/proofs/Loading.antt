@@ -22,23 +22,23 @@ use Rattle.gb_module.proofs.Stepping.{number_of}
 -- ---- a change of a loader
 
 -- there is no CPort, and so no loader of which anything holds
-pub nowhere : (o : Option ModulePort) (b : Bool) → o ≡ None
+pub nowhere : {o : Option ModulePort} (b : Bool) → o ≡ None
     → option_map is_running (port_loader o) ≡ Some b → ⊥
-nowhere None b e h = absurd cc
-nowhere (Some port) b e h = absurd cc
+nowhere {o = None} b e h = absurd cc
+nowhere {o = Some port} b e h = absurd cc
 
 -- the loader at the number is that of the CPort that was found
-pub loader-found : (number : ℕ) (ports items : List ModulePort) (i : ℕ) (x : ModulePort)
+pub loader-found : {number : ℕ} {ports items : List ModulePort} {i : ℕ} {x : ModulePort}
     → Found number ports items i x → port_loader (find (is_port number) ports) ≡ loader_of x.device
-loader-found number ports items i x f = ap port_loader f.found
+loader-found f = ap port_loader f.found
 
 -- a module with the loader of that CPort changed
-pub changes-at : (number : ℕ) (ports items : List ModulePort) (i : ℕ) (x y : ModulePort)
-    (change : Loader → Loader) (manifest : List ℕ) → Found number ports items i x
+pub changes-at : {number : ℕ} {ports items : List ModulePort} {i : ℕ} {x : ModulePort}
+    (y : ModulePort) (change : Loader → Loader) (manifest : List ℕ) → Found number ports items i x
     → y ≡ record x { device = with_loader change x.device }
     → with_ports manifest (set items i y)
     ≡ loader_changed change (with_ports manifest ports) (find (is_port number) ports)
-changes-at number ports items i x y change manifest f h =
+changes-at {number} {ports} {items} {i} {x} y change manifest f h =
     ap (λ (p : ModulePort). with_ports manifest (set items i p)) h
     ∙ ap (with_ports manifest)
     (sym (f.changed (record x { device = with_loader change x.device }) f.named))
@@ -119,13 +119,13 @@ ends-found number ports items i x y manifest (Some t) (Ok (Some n)) f h =
 ends-found number ports items i x y manifest a (Err refused) f h =
     same-module number ports items i x y manifest f h
 
-pub ends-at : (number : ℕ) (ports items : List ModulePort) (i : ℕ) (x y : ModulePort)
-    (how : Outcome) (manifest : List ℕ) (r : Result (Option Next) OutOfMemory)
+pub ends-at : {number : ℕ} {ports items : List ModulePort} {i : ℕ} {x : ModulePort}
+    (y : ModulePort) (how : Outcome) (manifest : List ℕ) (r : Result (Option Next) OutOfMemory)
     → Found number ports items i x
     → FollowsAs (with_its_loader x) (follows_in x.state how (loader_of x.device)) x y r
     → EndsAs (port_ended (with_ports manifest ports) (find (is_port number) ports) how)
     (with_ports manifest ports) (with_ports manifest (set items i y)) r
-ends-at number ports items i x y how manifest r f h =
+ends-at {number} {ports} {items} {i} {x} y how manifest r f h =
     subst (λ (o : Option ModulePort). EndsAs (port_ended (with_ports manifest ports) o how)
     (with_ports manifest ports) (with_ports manifest (set items i y)) r) (sym f.found)
     (subst (λ (a : Option ModuleLoaded).
@@ -135,10 +135,10 @@ ends-at number ports items i x y how manifest r f h =
     f h))
 
 -- a download that runs on at the CPort runs on at the number
-pub runs-at : (number : ℕ) (ports items : List ModulePort) (i : ℕ) (x y : ModulePort)
-    (r : Result (Option Next) OutOfMemory) → Found number ports items i x
+pub runs-at : {number : ℕ} {ports items : List ModulePort} {i : ℕ} {x : ModulePort}
+    (y : ModulePort) (r : Result (Option Next) OutOfMemory) → Found number ports items i x
     → y.number ≡ x.number → RunsOn (loader_of y.device) r
     → RunsOn (port_loader (find (is_port number) (set items i y))) r
-runs-at number ports items i x y r f same h =
+runs-at {number} {ports} {items} {i} {x} y r f same h =
     subst (λ (o : Option ModulePort). RunsOn (port_loader o) r)
     (sym (f.placed y (same ∙ f.named))) h

@@ -81,9 +81,9 @@ none-from number (x ∷ xs) n h =
     by false e h later =
         ap (λ b. cond b (Some x) (find (is_port number) xs)) e ∙ later h
 
-pub none-stands : (number : ℕ) (ports : List ModulePort) (o : Option ℕ)
+pub none-stands : (number : ℕ) (ports : List ModulePort) {o : Option ℕ}
     → o ≡ position_from (is_port number) 0 ports → o ≡ None → find (is_port number) ports ≡ None
-none-stands number ports o first e = none-from number ports 0 (sym first ∙ e)
+none-stands number ports {o} first e = none-from number ports 0 (sym first ∙ e)
 
 -- the places stay where a CPort is changed and keeps its number
 same-from : (number : ℕ) (ports : List ModulePort) (n i : ℕ) (new : ModulePort)
@@ -136,10 +136,10 @@ found-in number ports i x first is =
           (e ∙ ap (λ (p : ModulePort). p.number) (is ∙ same_member ports i x new s.within)));
     }
 
-pub found-at : (number : ℕ) (ports items : List ModulePort) (o : Option ℕ) (i : ℕ) (x : ModulePort)
+pub found-at : {number : ℕ} {ports items : List ModulePort} {o : Option ℕ} {i : ℕ} {x : ModulePort}
     → o ≡ position_from (is_port number) 0 ports → o ≡ Some i → items ≡ ports
     → x ≡ get_or items i x → Found number ports items i x
-found-at number ports items o i x first e view is =
+found-at {number} {ports} {items} {o} {i} {x} first e view is =
     subst (λ (xs : List ModulePort). Found number xs items i x) view
     (found-in number items i x
     (ap (λ (xs : List ModulePort). position_from (is_port number) 0 xs) view ∙ sym first ∙ e) is)

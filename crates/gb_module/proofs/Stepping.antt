@@ -35,12 +35,12 @@ pub serves-number : (x y : ModulePort) (kind : ℕ) (payload : List ℕ)
 serves-number x y kind payload (Ok served) h = ap number_of h.1
 serves-number x y kind payload (Err refused) h = ap number_of h
 
-pub serves-at : (number : ℕ) (ports items : List ModulePort) (i : ℕ) (x y : ModulePort)
-    (kind : ℕ) (payload manifest : List ℕ) (r : Result Served OutOfMemory)
+pub serves-at : {number : ℕ} {ports items : List ModulePort} {i : ℕ} {x : ModulePort}
+    (y : ModulePort) (kind : ℕ) (payload manifest : List ℕ) (r : Result Served OutOfMemory)
     → Found number ports items i x → ServesAs (port_step x kind payload) x y r
     → ServesAs (port_served (with_ports manifest ports) (find (is_port number) ports) kind payload)
     (with_ports manifest ports) (with_ports manifest (set items i y)) r
-serves-at number ports items i x y kind payload manifest (Ok served) f h =
+serves-at {number} {ports} {items} {i} {x} y kind payload manifest (Ok served) f h =
     subst (λ (o : Option ModulePort).
     ServesAs (port_served (with_ports manifest ports) o kind payload)
     (with_ports manifest ports) (with_ports manifest (set items i y)) (Ok served)) (sym f.found) (
@@ -48,7 +48,7 @@ serves-at number ports items i x y kind payload manifest (Ok served) f h =
       ap (λ (p : ModulePort). with_ports manifest (set items i p)) h.1
           ∙ ap (with_ports manifest) (sym (f.changed (port_step x kind payload).after f.named)),
     )
-serves-at number ports items i x y kind payload manifest (Err refused) f h =
+serves-at {number} {ports} {items} {i} {x} y kind payload manifest (Err refused) f h =
     ap (λ (p : ModulePort). with_ports manifest (set items i p)) h
     ∙ ap (with_ports manifest) f.same
 
@@ -73,12 +73,12 @@ abbrev pub coded : List ℕ → ℕ → List ModulePort → Step Module
 coded manifest code ports =
     record { after = with_ports manifest ports; served = refusal_of code }
 
-pub turns-at : (number : ℕ) (ports items : List ModulePort) (i : ℕ) (x y : ModulePort) (t : Turn)
-    (manifest : List ℕ) (code : ℕ) → Found number ports items i x
+pub turns-at : {number : ℕ} {ports items : List ModulePort} {i : ℕ} {x : ModulePort}
+    (y : ModulePort) (t : Turn) (manifest : List ℕ) (code : ℕ) → Found number ports items i x
     → code ≡ cond (wants t x.state) success invalid → y ≡ cond (wants t x.state) (changes t x) x
     → turn_step (with_ports manifest ports) (find (is_port number) ports) (wants t) (changes t)
     ≡ coded manifest code (set items i y)
-turns-at number ports items i x y t manifest code f is h =
+turns-at {number} {ports} {items} {i} {x} y t manifest code f is h =
     ap (λ (o : Option ModulePort). turn_step (with_ports manifest ports) o (wants t) (changes t))
     f.found
     ∙ by (wants t x.state)
@@ -141,12 +141,12 @@ stirs-found number ports items i x y manifest (Some stirred) (Err (fault.Memory 
     kept = ap (λ (p : ModulePort). with_ports manifest (set items i p)) h.1
         ∙ ap (with_ports manifest) f.same
 
-pub stirs-at : (number : ℕ) (ports items : List ModulePort) (i : ℕ) (x y : ModulePort)
-    (what : devices.Stir) (manifest : List ℕ) (r : Result (List OwnAsk) StirFault)
+pub stirs-at : {number : ℕ} {ports items : List ModulePort} {i : ℕ} {x : ModulePort}
+    (y : ModulePort) (what : devices.Stir) (manifest : List ℕ) (r : Result (List OwnAsk) StirFault)
     → Found number ports items i x → StirsAs (port_stir x (device_stir x.device what)) x y r
     → StirsAs (port_stirred (with_ports manifest ports) (find (is_port number) ports) what)
     (with_ports manifest ports) (with_ports manifest (set items i y)) r
-stirs-at number ports items i x y what manifest r f h =
+stirs-at {number} {ports} {items} {i} {x} y what manifest r f h =
     subst (λ (o : Option ModulePort). StirsAs (port_stirred (with_ports manifest ports) o what)
     (with_ports manifest ports) (with_ports manifest (set items i y)) r) (sym f.found)
     (stirs-found number ports items i x y manifest (device_stir x.device what) r f h)

@@ -1,7 +1,7 @@
+pub mod DeclaredPorts
 pub mod Few
 pub mod Loading
 pub mod Places
-pub mod Raw
 pub mod Steps
 pub mod Stirring
 pub mod Turning

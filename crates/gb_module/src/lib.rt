@@ -4,13 +4,13 @@
 
 mod control;
 mod cport_state;
+mod declared;
 mod device;
 mod kinds;
 mod loads;
 mod modules;
 mod port;
 mod ports;
-mod raw;
 mod stir;
 mod turn;
 

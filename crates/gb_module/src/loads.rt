@@ -36,9 +36,9 @@ impl Module {
 
     /// The request of a CPort that was made last has ended: answers what follows in the download
     /// that runs there, None exactly where none runs. Where the CPort isn't on, it fails in place
-    /// of a next request. A next request is answered only where the download still runs. Only where
-    /// it goes on with more than 16 bytes it takes memory. After want of memory the module is as
-    /// before.
+    /// of a next request. A next request is answered only where the download still runs. Only
+    /// where it goes on with more than 16 bytes it takes memory. After want of memory the module
+    /// is as before.
     pub fn ended(&mut self, cport: u16, outcome: &Outcome) -> Result<Option<Next>, OutOfMemory>
         ensures step { EndsAs (module_ended self.old cport outcome.now) self.old self.new result }
         ensures runs { RunsOn (loader_at self.new cport) result }

@@ -10,9 +10,9 @@ ghost use Rattle.gb_module.specs.Stirring.{IsStir, StirsAs};
 ghost use Rattle.gb_module.specs.Views.{cport_state_of, stir_of};
 
 use crate::cport_state::CportState;
+use crate::declared::declared_ports;
 use crate::kinds;
 use crate::ports::Ports;
-use crate::raw::declared_ports;
 use crate::stir::{Stir, StirFault};
 use gb_base::{Bytes, Kind, OutOfMemory, OwnAsks, Served};
 use std::alloc::Global;

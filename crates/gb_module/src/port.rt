@@ -99,9 +99,8 @@ impl Port {
         SUCCESS
     }
 
-    /// Serves a request at its device, whose own requests are left out where the CPort isn't on.
-    /// An answer of few bytes without requests takes no memory. After want of memory it is as
-    /// before.
+    /// Serves a request at its device, whose own requests are left out where the CPort isn't on. An
+    /// answer of few bytes without requests takes no memory. After want of memory it is as before.
     pub fn serve(&mut self, kind: u8, payload: &[u8]) -> Result<Served, OutOfMemory>
         ensures step { ServesAs (port_step self.old kind payload.now) self.old self.new result }
         ensures few { FewSucceed (device_step self.old.device kind payload.now).served result }
@@ -134,8 +133,8 @@ impl Port {
     }
 
     /// Whether its firmware device can begin a download. NoCport exactly where it has another
-    /// device, else NoConnection exactly where it isn't on, else Occupied exactly where a download
-    /// runs.
+    /// device, else NoConnection exactly where it isn't on, else Occupied exactly where a
+    /// download runs.
     pub fn may_load(&self) -> Result<(), Refusal>
         ensures { loader_refusal self.now.state (loader_of self.now.device) ≡ refusal_in result }
     {

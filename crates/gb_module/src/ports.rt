@@ -152,8 +152,8 @@ impl Ports {
         port.ended(outcome)
     }
 
-    /// The download that runs at the CPort with a number fails: answers its tag. It takes no
-    /// memory.
+    /// The download that runs at the CPort with a number fails: answers its tag. It takes
+    /// no memory.
     pub fn fail(&mut self, number: u16) -> Tag
         requires { Runs (port_loader (find (is_port number) self.old)) }
         ensures tag { result ≡ running_tag (port_loader (find (is_port number) self.old)) }

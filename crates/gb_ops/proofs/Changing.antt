@@ -1,5 +1,5 @@
 -- What the maps and the identifiers come to at each call.
-use Rattle.std.proofs.Common.{◌≡◌, ◌≤◌, ℕ, Bool, false, Option, Some, None, is_some, List, Result}
+use Rattle.std.proofs.Common.{◌≡◌, ℕ, Bool, false, Option, Some, None, is_some, List, Result}
 use Rattle.std.proofs.Common.{Ok, Err, option_map, refl, sym, ap, ◌∙◌, subst, arith}
 use Rattle.std.specs.BTreeMap.{is_at}
 use Rattle.std.specs.Map.{lookup}
@@ -10,14 +10,14 @@ use Rattle.gb_labels.specs.Drawing.{Frees, IsNext, NextAs, Takes}
 use Rattle.gb_labels.specs.LabelSet.{LabelSet, next_of}
 use Rattle.gb_labels.specs.declared.labels.NoLabel.{NoLabel}
 use Rattle.gb_machine.specs.Labels.{free_label, greatest_label, label_after}
-use Rattle.gb_ops.proofs.Keeping.{begun, late_holder, left, open_holder}
+use Rattle.gb_ops.proofs.Keeping.{begun, begun_anew, late_holder, left, open_holder}
 use Rattle.gb_ops.proofs.Maps.{same_some}
-use Rattle.gb_ops.specs.Calls.{Begins, Closes, Ends, IsReached, Refuses}
+use Rattle.gb_ops.specs.Calls.{Begins, Closes, Ends}
 use Rattle.gb_ops.specs.Finding.{IsLeast}
-use Rattle.gb_ops.specs.Operations.{Operations, next_label, pending_at}
+use Rattle.gb_ops.specs.Operations.{Operations, next_label}
 use Rattle.gb_table.specs.Table.{Puts}
-use Rattle.gb_ops.specs.Tables.{AllCovered, Enters, IsUnchanged, Kept, Leaves, LeavesAs, MarksAs}
-use Rattle.gb_ops.specs.Tables.{Reaches, ReleasesAs, gave_up, holder_in, numbered, pending_in}
+use Rattle.gb_ops.specs.Tables.{AllCovered, Enters, Kept, Leaves, LeavesAs, MarksAs}
+use Rattle.gb_ops.specs.Tables.{ReleasesAs, gave_up, holder_in, numbered, pending_in}
 use Rattle.gb_ops.specs.declared.entries.Holder.{Holder}
 use Rattle.gb_ops.specs.declared.entries.Pending.{Pending}
 use Rattle.gb_ops.specs.declared.tables.Tables.{Tables}
@@ -55,87 +55,6 @@ none_from (Some a) e = absurd (cc e)
 abbrev by_number : ℕ → ℕ → Bool
 by_number n = is_at (nat_cmp n)
 
--- ---- a request is begun
-
-pub begins : (labels after : LabelSet) (t u : Tables) (x : Operations) (label n d : ℕ)
-    → Kept labels t
-    → view labels t ≡ x → IsNext labels label → ((m : ℕ) → n ≤ m → pending_in t m ≡ None)
-    → Enters t u label n d → Takes labels after label
-    → Begins x (view after u) n d label
-begins labels after t u x label n d k is next above e w =
-    subst (λ o. Begins o (view after u) n d label) is (record {
-      above = above;
-      next = sym (next_same labels t k) ∙ next.next;
-      holder = e.holder;
-      pending = e.pending;
-      last = w.last;
-    })
-
-pub begun_kept : (labels after : LabelSet) (t u : Tables) (label n d : ℕ) → Kept labels t
-    → IsNext labels label → ((m : ℕ) → n ≤ m → pending_in t m ≡ None) → Enters t u label n d
-    → Takes labels after label
-    → Kept after u
-begun_kept labels after t u label n d k next above e w =
-    begun labels after t u label n d k
-    (none_from (holder_in t label) (sym (k.used label) ∙ next.unused)) (above n (omega arith)) e w
-
--- ---- a request isn't begun
-
-pub reached : (labels : LabelSet) (t : Tables) (x : Operations) (label n : ℕ) → Kept labels t
-    → view labels t ≡ x → IsNext labels label → Reaches t n → IsReached x x n
-reached labels t x label n k is next r = record {
-  number = r.number;
-  within = r.within;
-  there = ap (λ (o : Operations). is_some (pending_at o r.number)) (sym is) ∙ r.there;
-  label = label;
-  next = sym (next_seen labels t x k is) ∙ next.next;
-  same = refl;
-}
-
-pub refuses : (labels : LabelSet) (t u : Tables) (x : Operations) (label n : ℕ) → Kept labels t
-    → view labels t ≡ x → IsNext labels label → ((m : ℕ) → n ≤ m → pending_in t m ≡ None)
-    → IsUnchanged t u → Refuses x (view labels u) n
-refuses labels t u x label n k is next above same = record {
-  above = λ m h. ap (λ (o : Operations). pending_at o m) (sym is) ∙ above m h;
-  label = label;
-  next = sym (next_seen labels t x k is) ∙ next.next;
-  same = holders ∙ pending ∙ is;
-}
-  where
-    holders : view labels u ≡ record (view labels t) { pending = numbered u.pending.entries }
-    holders =
-        ap (λ (es : List (ℕ × Holder)). record (view labels u) { holders = es }) same.holders
-
-    pending : record (view labels t) { pending = numbered u.pending.entries } ≡ view labels t
-    pending =
-        ap (λ (es : List (ℕ × Pending)). record (view labels t) { pending = es })
-        (ap numbered same.pending)
-
-pub refused_kept : (labels : LabelSet) (t u : Tables) → Kept labels t → IsUnchanged t u
-    → Kept labels u
-refused_kept labels t u k same = record {
-  used = λ l. k.used l ∙ ap is_some (ap (lookup (nat_eq l)) (sym same.holders));
-  held = λ n p h.
-      ap (lookup (nat_eq p.label)) same.holders
-      ∙ k.held n p (ap (lookup (by_number n)) (sym (ap numbered same.pending)) ∙ h);
-  opened = λ l n h.
-      ap (λ (es : List (ℕ × Pending)). option_map (λ p. p.label) (lookup (by_number n) es))
-      (ap numbered same.pending)
-      ∙ k.opened l n (ap (lookup (nat_eq l)) (sym same.holders) ∙ h);
-  covered = λ n p h.
-      let least = k.covered n p (ap (lookup (by_number n)) (sym (ap numbered same.pending)) ∙ h) in
-      omega (arith, least, same.soonest);
-}
-
--- ---- an open request is over or given up
-
--- an open request is open no more, and its identifier has this
-pub record Departs (t u : Tables) (n : ℕ) (p : Pending) (w : Option Holder) : Type 0 where
-  pub there : pending_in t n ≡ Some p
-  pub pending : Puts (pending_in t) (pending_in u) n None
-  pub holder : Puts (holder_in t) (holder_in u) p.label w
-  pub covered : AllCovered t → AllCovered u
-
 -- the same through maps with the same entries
 puts_from : {X : Type 0} (at : ℕ → ℕ → Bool) (f : ℕ → Option X) (es fs : List (ℕ × X)) (k : ℕ)
     (w : Option X) → fs ≡ es
@@ -152,6 +71,62 @@ puts_to at f es fs k w same p = record {
   here = p.here;
   others = λ q ne. p.others q ne ∙ ap (lookup (at q)) same;
 }
+
+-- ---- a request is begun
+
+pub begins : (labels after : LabelSet) (t u : Tables) (x : Operations) (label n d : ℕ)
+    → Kept labels t
+    → view labels t ≡ x → IsNext labels label
+    → Enters t u label n d → Takes labels after label
+    → Begins x (view after u) n d label
+begins labels after t u x label n d k is next e w =
+    subst (λ o. Begins o (view after u) n d label) is (record {
+      next = sym (next_same labels t k) ∙ next.next;
+      holder = λ none. e.holder;
+      pending = e.pending;
+      last = w.last;
+    })
+
+pub begun_kept : (labels after : LabelSet) (t u : Tables) (label n d : ℕ) → Kept labels t
+    → IsNext labels label → pending_in t n ≡ None → Enters t u label n d
+    → Takes labels after label
+    → Kept after u
+begun_kept labels after t u label n d k next none e w =
+    begun labels after t u label n d k
+    (none_from (holder_in t label) (sym (k.used label) ∙ next.unused)) none e w
+
+-- The request was open already, and its former identifier is free.
+pub begins_anew : (labels freed after : LabelSet) (t m u : Tables) (x : Operations) (label n d : ℕ)
+    (p : Pending) (r : Option Holder) → Kept labels t
+    → view labels t ≡ x → IsNext labels label → pending_in t n ≡ Some p
+    → Enters t m label n d → ReleasesAs m u p.label r → Takes freed after label
+    → Begins x (view after u) n d label
+begins_anew labels freed after t m u x label n d p r k is next there e l w =
+    subst (λ o. Begins o (view after u) n d label) is (record {
+      next = sym (next_same labels t k) ∙ next.next;
+      holder = λ none. absurd (cc (there, none));
+      pending = puts_from by_number (pending_in t) (numbered m.pending.entries)
+          (numbered u.pending.entries) n (Some (record { label = label; deadline = d }))
+          (ap (λ b. numbered b.entries) l.pending) e.pending;
+      last = w.last;
+    })
+
+pub begun_anew_kept : (labels freed after : LabelSet) (t m u : Tables) (label n d : ℕ)
+    (p : Pending) (r : Option Holder) → Kept labels t → IsNext labels label
+    → pending_in t n ≡ Some p → Enters t m label n d → ReleasesAs m u p.label r
+    → Frees labels freed p.label → Takes freed after label → Kept after u
+begun_anew_kept labels freed after t m u label n d p r k next there e l f w =
+    begun_anew labels freed after t m u label n d p r k
+    (none_from (holder_in t label) (sym (k.used label) ∙ next.unused)) there e l f w
+
+-- ---- an open request is over or given up
+
+-- an open request is open no more, and its identifier has this
+pub record Departs (t u : Tables) (n : ℕ) (p : Pending) (w : Option Holder) : Type 0 where
+  pub there : pending_in t n ≡ Some p
+  pub pending : Puts (pending_in t) (pending_in u) n None
+  pub holder : Puts (holder_in t) (holder_in u) p.label w
+  pub covered : AllCovered t → AllCovered u
 
 -- the soonest stays, and what is open
 covered_same : (m u : Tables) → u.pending ≡ m.pending → u.soonest ≡ m.soonest

@@ -10,9 +10,10 @@ use Rattle.std.specs.Map.{keys_of}
 use Rattle.std.specs.Option.{option_or}
 use Rattle.std.specs.Ordering.{nat_cmp}
 use Rattle.std.specs.declared.cmp.Reverse.{Reverse}
-use Rattle.gb_ops.proofs.Maps.{at, key_other, key_same, same_some}
+use Rattle.gb_ops.proofs.Maps.{key_other, key_same, same_some}
 use Rattle.gb_ops.specs.Finding.{FindsDue, due_in}
 use Rattle.gb_ops.specs.Tables.{falling, numbered}
+use Rattle.gb_ops.specs.Tables.{pending_among as at}
 use Rattle.gb_ops.specs.declared.entries.Pending.{Pending}
 
 -- ---- the last of a list

@@ -1,19 +1,22 @@
 -- Changes at one key of an ordered map.
-use Rattle.std.proofs.Common.{◌≡◌, ◌≢◌, ◌<◌, ◌≤◌, ℕ, min, true, false, cond, ◌⊎◌, inl, inr, Option}
+use Rattle.std.proofs.Common.{◌≡◌, ◌≢◌, ◌≤◌, ℕ, min, true, false, cond, ◌⊎◌, inl, inr, Option}
 use Rattle.std.proofs.Common.{Some, None, is_some, List, [], ◌∷◌, length, refl, sym, ap, ◌∙◌, arith}
 use Rattle.std.proofs.Common.{unwrap_or, Bool, Equal}
 use Rattle.std.proofs.lemmas.Bool.{cases_eq}
 use Rattle.std.proofs.lemmas.Bool.Decides.{nat_tests}
 use Rattle.std.proofs.lemmas.Cmp.{back_total, nat_cmp_total, on_total}
 use Rattle.std.proofs.lemmas.Map.Lookups.{btree_map_from_get, exact_unsigned}
-use Rattle.std.specs.BTreeMap.{BTreeMap, IsLowerBound, IsOrdered, IsUpperBound, get, is_at}
+use Rattle.std.specs.BTreeMap.{BTreeMap, IsOrdered, IsUpperBound, get, is_at}
 use Rattle.std.specs.Cmp.{IsTotalOrder}
 use Rattle.std.specs.Map.{lookup}
 use Rattle.std.specs.Ordering.{is_eq, nat_cmp}
 use Rattle.std.specs.declared.cmp.Reverse.{Reverse}
-use Rattle.gb_table.specs.Table.{Puts}
+use Rattle.std.specs.Prelude.{nat_eq}
+use Rattle.gb_table.specs.Table.{Puts, item_at}
 use Rattle.gb_ops.specs.Finding.{TellsIdle}
-use Rattle.gb_ops.specs.Tables.{falling, numbered}
+use Rattle.gb_ops.specs.Tables.{Updated, falling}
+use Rattle.gb_ops.specs.Tables.{pending_among as at}
+use Rattle.gb_ops.specs.declared.entries.Holder.{Holder}
 use Rattle.gb_ops.specs.declared.entries.Pending.{Pending}
 
 pub same_some : {A : Type 0} (x y : A) → Some x ≡ Some y → x ≡ y
@@ -21,6 +24,9 @@ same_some x y e = ap (λ o. unwrap_or o x) e
 
 pub key_same : (a b : ℕ) → a ≡ b → is_eq (nat_cmp a b) ≡ true
 key_same a b e = grind (arith, nat_tests)
+
+number_same : (a : ℕ) → nat_eq a a ≡ true
+number_same a = grind (arith, nat_tests)
 
 pub key_other : (a b : ℕ) → a ≢ b → is_eq (nat_cmp a b) ≡ false
 key_other a b e = grind (arith, nat_tests)
@@ -32,22 +38,12 @@ key_back a b = grind (arith, nat_tests)
 abbrev pub key : ℕ → Reverse ℕ
 key n = record { 0 = n }
 
--- what stands at a number
-abbrev pub at : List (Reverse ℕ × Pending) → ℕ → Option Pending
-at es n = lookup (is_at (nat_cmp n)) (numbered es)
-
 -- it is what the map has at the key
 pub seen : (es : List (Reverse ℕ × Pending)) (n : ℕ) → lookup (is_at (falling (key n))) es ≡ at es n
 seen [] n = refl
 seen (e ∷ es) n =
     ap (λ t. cond t (Some e.1) (lookup (is_at (falling (key n))) es)) (key_back e.0.0 n)
     ∙ ap (cond (is_eq (nat_cmp n e.0.0)) (Some e.1)) (seen es n)
-
--- what the map has after a change at one key
-abbrev pub Updated : BTreeMap (Reverse ℕ) Pending → BTreeMap (Reverse ℕ) Pending → ℕ
-    → Option Pending → Type 0
-Updated m n k w =
-    (q : Reverse ℕ) → get falling n q ≡ cond (is_at (falling (key k)) q) w (get falling m q)
 
 pub puts : (m n : BTreeMap (Reverse ℕ) Pending) (k : ℕ) (w : Option Pending) → Updated m n k w
     → Puts (at m.entries) (at n.entries) k w
@@ -65,12 +61,12 @@ falling_total = back_total (on_total (λ (x : Reverse ℕ). x.0) nat_cmp_total)
 exact : (x y : Reverse ℕ) → falling x y ≡ Equal → x ≡ y
 exact x y e = ap key (sym (exact_unsigned y.0 x.0 e))
 
--- a number that wasn't there was put and taken away
-pub restored : (m between n : BTreeMap (Reverse ℕ) Pending) (k : ℕ) (w : Option Pending)
-    → at m.entries k ≡ None
-    → Updated m between k w → Updated between n k None → IsOrdered falling m → IsOrdered falling n
+-- something else was put at a number, and what stood there again
+pub restored : (m between n : BTreeMap (Reverse ℕ) Pending) (k : ℕ) (w was : Option Pending)
+    → at m.entries k ≡ was
+    → Updated m between k w → Updated between n k was → IsOrdered falling m → IsOrdered falling n
     → n.entries ≡ m.entries
-restored m between n k w absent u v s t =
+restored m between n k w was before u v s t =
     btree_map_from_get falling_total n m t s (λ q. same q.0) exact
   where
     same : (q : ℕ) → get falling n (key q) ≡ get falling m (key q)
@@ -78,35 +74,34 @@ restored m between n k w absent u v s t =
       where
         by : (q ≡ k) ⊎ (q ≡ k → ⊥) → at n.entries q ≡ at m.entries q
         by (inl e) =
-            ap (at n.entries) e ∙ (puts between n k None v).here ∙ sym absent
+            ap (at n.entries) e ∙ (puts between n k was v).here ∙ sym before
             ∙ ap (at m.entries) (sym e)
-        by (inr ne) = (puts between n k None v).others q ne ∙ (puts m between k w u).others q ne
+        by (inr ne) = (puts between n k was v).others q ne ∙ (puts m between k w u).others q ne
+
+-- ---- nothing stands in a map
+
+-- no request is open, so the map is empty
+pub none-open : (es : List (Reverse ℕ × Pending)) → ((n : ℕ) → at es n ≡ None) → es ≡ []
+none-open [] none = refl
+none-open (e ∷ es) none =
+    let here = ap (λ t. cond t (Some e.1) (at es e.0.0)) (key_same e.0.0 e.0.0 refl) in
+    absurd (cc (here, none e.0.0))
+
+-- no identifier is in use, so the map is empty
+pub none-held : (es : List (ℕ × Holder)) → ((n : ℕ) → item_at es n ≡ None) → es ≡ []
+none-held [] none = refl
+none-held (e ∷ es) none =
+    let here = ap (λ t. cond t (Some e.1) (item_at es e.0)) (number_same e.0) in
+    absurd (cc (here, none e.0))
 
 -- ---- the ends of the map
 
-none_from : (o : Option Pending) → ((p : Pending) → o ≡ Some p → ⊥) → o ≡ None
-none_from None never = refl
-none_from (Some p) never = absurd (never p refl)
-
--- no open request is above the first
-pub top : (m : BTreeMap (Reverse ℕ) Pending) (k : Reverse ℕ) → IsLowerBound falling m k → (n : ℕ)
-    (p : Pending) → at m.entries n ≡ Some p → n ≤ k.0
-top m k low n p h =
-    let not_above = low (key n) (ap is_some (seen m.entries n ∙ h)) in
-    grind (arith, nat_tests)
-
--- or below the last
+-- no open request is below the last
 pub bottom : (m : BTreeMap (Reverse ℕ) Pending) (k : Reverse ℕ) → IsUpperBound falling m k
     → (n : ℕ) (p : Pending) → at m.entries n ≡ Some p → k.0 ≤ n
 bottom m k up n p h =
     let not_below = up (key n) (ap is_some (seen m.entries n ∙ h)) in
     grind (arith, nat_tests)
-
--- none is at numbers above the first
-pub none_above : (m : BTreeMap (Reverse ℕ) Pending) (k : Reverse ℕ) → IsLowerBound falling m k
-    → (n : ℕ) → k.0 < n → (q : ℕ) → n ≤ q → at m.entries q ≡ None
-none_above m k low n below q within =
-    none_from (at m.entries q) (λ p h. let over = top m k low q p h in absurd (omega arith))
 
 -- ---- deadlines
 

@@ -1,6 +1,6 @@
 -- What the calls answer, and what is kept afterwards.
-use Rattle.std.specs.Prelude.{◌≡◌, ◌≤◌, ℕ, Bool, true, false, Option, Some, None, Result, Ok}
-use Rattle.std.specs.Prelude.{Err, [], is_some}
+use Rattle.std.specs.Prelude.{◌≡◌, ℕ, Bool, true, false, Option, Some, None, Result, Ok}
+use Rattle.std.specs.Prelude.{Err, []}
 use Rattle.gb_ops.specs.Finding.{IsLeast, IsLeastDue, NoneDue}
 use Rattle.gb_ops.specs.Operations.{Operations, holder_of, next_label, pending_at}
 use Rattle.gb_table.specs.Table.{Puts}
@@ -18,39 +18,27 @@ no_operations = record { holders = []; pending = []; last = 0 }
 abbrev pub emptied : Operations → Operations
 emptied x = record { holders = []; pending = []; last = x.last }
 
--- A request is open, and has the identifier that came next and a number above all open ones.
+-- A request is open, and has the identifier that came next. Where it was open already nothing is
+-- said of the identifiers in use.
 pub record Begins (old new : Operations) (n deadline label : ℕ) : Type 0 where
-  pub above : (m : ℕ) → n ≤ m → pending_at old m ≡ None
   pub next : next_label old ≡ Some label
-  pub holder : Puts (holder_of old) (holder_of new) label
+  pub holder : pending_at old n ≡ None → Puts (holder_of old) (holder_of new) label
       (Some (record { number = n; given_up = false }))
   pub pending : Puts (pending_at old) (pending_at new) n
       (Some (record { label = label; deadline = deadline }))
   pub last : new.last ≡ label
 
--- an open request has this number or a greater one, an identifier is left, and nothing changes
-pub record IsReached (old new : Operations) (n : ℕ) : Type 0 where
-  pub number : ℕ
-  pub within : n ≤ number
-  pub there : is_some (pending_at old number) ≡ true
+-- no memory was found for the request, an identifier is left, and nothing changes
+pub record Refuses (old new : Operations) : Type 0 where
   pub label : ℕ
   pub next : next_label old ≡ Some label
   pub same : new ≡ old
 
--- no memory was found for the request, which may be begun, and nothing changes
-pub record Refuses (old new : Operations) (n : ℕ) : Type 0 where
-  pub above : (m : ℕ) → n ≤ m → pending_at old m ≡ None
-  pub label : ℕ
-  pub next : next_label old ≡ Some label
-  pub same : new ≡ old
-
--- A request is begun, or no identifier is left, or its number isn't above those of all that are
--- open, or no memory was found. Then nothing changes.
+-- A request is begun, or no identifier is left, or no memory was found. Then nothing changes.
 abbrev pub BeginsAs : Operations → Operations → ℕ → ℕ → Result ℕ BeginFault → Type 0
 BeginsAs old new n deadline (Ok label) = Begins old new n deadline label
 BeginsAs old new n deadline (Err begin.NoLabel) = (next_label old ≡ None) × (new ≡ old)
-BeginsAs old new n deadline (Err begin.NotAbove) = IsReached old new n
-BeginsAs old new n deadline (Err (begin.Memory m)) = Refuses old new n
+BeginsAs old new n deadline (Err (begin.Memory m)) = Refuses old new
 
 -- an open request is over, and its identifier is free
 pub record Ends (old new : Operations) (label n : ℕ) : Type 0 where

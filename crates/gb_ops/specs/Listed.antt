@@ -1,5 +1,6 @@
 -- The numbers of the requests of a side, in order.
-use Rattle.std.specs.Prelude.{◌≡◌, ◌<◌, ℕ, true, if◌then◌else◌, IsSome, Some, List, [], ◌∷◌}
+use Rattle.std.specs.Prelude.{◌≡◌, ◌<◌, ℕ, true, if◌then◌else◌, IsSome, Some}
+use Rattle.std.specs.Prelude.{None, List, [], ◌∷◌}
 use Rattle.std.specs.BTreeSet.{insert_key}
 use Rattle.std.specs.Ordering.{nat_cmp}
 use Rattle.gb_machine.specs.Members.{EachTwo, IsIn}
@@ -9,6 +10,14 @@ use Rattle.gb_ops.specs.declared.entries.Holder.{Holder}
 -- a request is open
 abbrev pub IsOpen : Operations → ℕ → Type 0
 IsOpen x n = IsSome (pending_at x n)
+
+-- no request is open
+abbrev pub AllEnded : Operations → Type 0
+AllEnded x = (n : ℕ) → pending_at x n ≡ None
+
+-- no identifier is in use
+abbrev pub AllFree : Operations → Type 0
+AllFree x = (label : ℕ) → holder_of x label ≡ None
 
 -- A request was given up, and its answer hasn't come: an identifier is in use for it.
 pub record IsLate (x : Operations) (n : ℕ) : Type 0 where

@@ -1,7 +1,7 @@
 -- What the maps keep, and what their calls do.
-use Rattle.std.specs.Prelude.{◌≡◌, ◌≤◌, ℕ, true, false, Option, Some, None, is_some}
+use Rattle.std.specs.Prelude.{◌≡◌, ◌≤◌, ℕ, true, false, cond, Option, Some, None, is_some}
 use Rattle.std.specs.Prelude.{option_map, IsNone, List, [], ◌∷◌, ◌++◌}
-use Rattle.std.specs.BTreeMap.{is_at}
+use Rattle.std.specs.BTreeMap.{BTreeMap, get, is_at}
 use Rattle.std.specs.Map.{lookup}
 use Rattle.std.specs.Ordering.{nat_cmp}
 use Rattle.std.specs.declared.cmp.Ordering.{Ordering}
@@ -31,8 +31,18 @@ rising_numbers [] = []
 rising_numbers (e ∷ es) = rising_numbers es ++ e.0.0 ∷ []
 
 -- an open request by its number
+abbrev pub pending_among : List (Reverse ℕ × Pending) → ℕ → Option Pending
+pending_among es n = lookup (is_at (nat_cmp n)) (numbered es)
+
 abbrev pub pending_in : Tables → ℕ → Option Pending
-pending_in t n = lookup (is_at (nat_cmp n)) (numbered t.pending.entries)
+pending_in t n = pending_among t.pending.entries n
+
+-- what a map has after a change at one number
+abbrev pub Updated : BTreeMap (Reverse ℕ) Pending → BTreeMap (Reverse ℕ) Pending → ℕ
+    → Option Pending → Type 0
+Updated m n k w =
+    (q : Reverse ℕ)
+    → get falling n q ≡ cond (is_at (falling (record { 0 = k })) q) w (get falling m q)
 
 -- nothing is kept
 pub record IsEmpty (t : Tables) : Type 0 where
@@ -43,13 +53,7 @@ pub record IsEmpty (t : Tables) : Type 0 where
 abbrev pub AllCovered : Tables → Type 0
 AllCovered t = (n : ℕ) (p : Pending) → pending_in t n ≡ Some p → t.soonest ≤ p.deadline
 
--- an open request has this number or a greater one
-pub record Reaches (t : Tables) (n : ℕ) : Type 0 where
-  pub number : ℕ
-  pub within : n ≤ number
-  pub there : is_some (pending_in t number) ≡ true
-
--- a request is open
+-- A request is open. What it had where it was open already keeps its identifier.
 pub record Enters (old new : Tables) (label n deadline : ℕ) : Type 0 where
   pub holder : Puts (holder_in old) (holder_in new) label
       (Some (record { number = n; given_up = false }))

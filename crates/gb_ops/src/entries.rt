@@ -36,8 +36,6 @@ pub enum Matched {
 pub enum BeginFault {
     /// All 65,535 identifiers are in use. All is as before.
     NoLabel,
-    /// An open request has this number or a greater one. All is as before.
-    NotAbove,
     /// No memory was found. All is as before.
     Memory(OutOfMemory),
 }

@@ -1,6 +1,6 @@
 //! The requests of one side of a connection.
 
-ghost use Rattle.std.specs.Prelude.{◌≡◌, IfOk, is_none};
+ghost use Rattle.std.specs.Prelude.{◌≡◌, IfOk, IsOk, is_none};
 ghost use Rattle.gb_ops.specs.Calls.{
   BeginsAs,
   ClosesAs,
@@ -11,7 +11,7 @@ ghost use Rattle.gb_ops.specs.Calls.{
   no_operations,
 };
 ghost use Rattle.gb_ops.specs.Finding.{FindsDue, TellsIdle};
-ghost use Rattle.gb_ops.specs.Listed.{IsLate, IsOpen, Lists};
+ghost use Rattle.gb_ops.specs.Listed.{AllEnded, AllFree, IsLate, IsOpen, Lists};
 ghost use Rattle.gb_ops.specs.Operations.{holder_of, next_label, pending_at};
 
 use crate::tables::Tables;
@@ -56,19 +56,21 @@ impl Ops {
     }
 
     /// Request n is open from now on, and its identifier is answered: the next one. `deadline` is
-    /// in milliseconds. NotAbove comes where n isn't greater than the numbers of all open requests,
-    /// and an identifier is left. After each refusal all is as before.
+    /// in milliseconds. Where n was open already nothing is said of the identifiers in use. After
+    /// each refusal all is as before.
     pub fn begin(&mut self, n: u64, deadline: u64) -> Result<u16, BeginFault>
         ensures { BeginsAs self.old self.new n deadline result }
     {
         let Ok(label) = self.labels.next() else {
             return Err(BeginFault::NoLabel);
         };
-        if self.tables.reaches(n) {
-            return Err(BeginFault::NotAbove);
-        }
-        if let Err(refused) = self.tables.enter(label, n, deadline) {
-            return Err(BeginFault::Memory(refused));
+        let former = match self.tables.enter(label, n, deadline) {
+            Ok(former) => former,
+            Err(refused) => return Err(BeginFault::Memory(refused)),
+        };
+        if let Some(former) = former {
+            self.tables.release(former.label);
+            self.labels.free(former.label);
         }
         self.labels.take(label);
         Ok(label)
@@ -123,17 +125,20 @@ impl Ops {
         self.tables.is_idle()
     }
 
-    /// The numbers of the open requests, in order.
+    /// The numbers of the open requests, in order. It takes no memory where none is open.
     pub fn unended(&self, alloc: Global) -> Result<Numbers, OutOfMemory>
-        ensures { IfOk result (λ ns. Lists (IsOpen self.now) ns) }
+        ensures lists { IfOk result (λ ns. Lists (IsOpen self.now) ns) }
+        ensures few { AllEnded self.now → IsOk result }
     {
         let numbers = self.tables.unended(alloc)?;
         Ok(numbers)
     }
 
-    /// The numbers of the requests that were given up and not answered yet, in order.
+    /// The numbers of the requests that were given up and not answered yet, in order. It takes no
+    /// memory where no identifier is in use.
     pub fn late(&self, alloc: Global) -> Result<Numbers, OutOfMemory>
-        ensures { IfOk result (λ ns. Lists (IsLate self.now) ns) }
+        ensures lists { IfOk result (λ ns. Lists (IsLate self.now) ns) }
+        ensures few { AllFree self.now → IsOk result }
     {
         let numbers = self.tables.late(alloc)?;
         Ok(numbers)

@@ -1,6 +1,6 @@
 //! Requests by identifier and by number.
 
-ghost use Rattle.std.specs.Prelude.{◌≡◌, ◌≤◌, ℕ, None, [], IfOk, OnErr, OnOk, nat_eq, true, false};
+ghost use Rattle.std.specs.Prelude.{◌≡◌, [], IfOk, IsOk, IsSome, OnErr, OnOk, nat_eq};
 ghost use Rattle.std.specs.BTreeMap.{IsOrdered};
 ghost use Rattle.std.specs.List.{IsDistinct};
 ghost use Rattle.std.specs.List.Sorted.{IsStrictlySortedBy};
@@ -15,11 +15,12 @@ ghost use Rattle.gb_ops.specs.Tables.{
   IsUnchanged,
   LeavesAs,
   MarksAs,
-  Reaches,
   ReleasesAs,
+  Updated,
   falling,
   holder_in,
   numbered,
+  pending_among,
   pending_in,
   rising_numbers,
 };
@@ -54,24 +55,31 @@ impl Tables {
         }
     }
 
-    /// A request is open. It wasn't before. After want of memory all is as before.
-    pub fn enter(&mut self, label: u16, n: u64, deadline: u64) -> Result<(), OutOfMemory>
-        requires { pending_in self.old n ≡ None }
+    /// A request is open. What it had where it was open already is answered: its former identifier
+    /// is in use still. After want of memory all is as before.
+    pub fn enter(
+        &mut self,
+        label: u16,
+        n: u64,
+        deadline: u64,
+    ) -> Result<Option<Pending>, OutOfMemory>
+        ensures former { IfOk result (λ former. former ≡ pending_in self.old n) }
         ensures entered { OnOk result (Enters self.old self.new label n deadline) }
         ensures unchanged { OnErr result (IsUnchanged self.old self.new) }
     {
-        self.pending
+        let former = self
+            .pending
             .insert(Reverse(n), Pending { label, deadline })?;
         let holder = Holder {
             number: n,
             given_up: false,
         };
-        if self.holders.put(u64::from(label), holder).is_err() {
-            self.pending.remove(&Reverse(n));
-            return Err(OutOfMemory);
+        if let Err(refused) = self.holders.put(u64::from(label), holder) {
+            restore(&mut self.pending, n, former);
+            return Err(refused);
         }
         self.soonest = self.soonest.min(deadline);
-        Ok(())
+        Ok(former)
     }
 
     /// A request is open no more. None comes where it wasn't.
@@ -99,17 +107,6 @@ impl Tables {
         self.holders.clear();
         self.pending.clear();
         self.soonest = u64::MAX;
-    }
-
-    /// An open request has this number or a greater one.
-    pub fn reaches(&self, n: u64) -> bool
-        ensures some { result ≡ true → Reaches self.now n }
-        ensures none { result ≡ false → (m : ℕ) → n ≤ m → pending_in self.now m ≡ None }
-    {
-        match self.pending.first_key_value() {
-            Some((greatest, _)) => greatest.0 >= n,
-            None => false,
-        }
     }
 
     /// No request is open.
@@ -152,6 +149,7 @@ impl Tables {
     pub fn unended(&self, alloc: Global) -> Result<Numbers, OutOfMemory>
         ensures numbers { IfOk result (λ ns. ns ≡ rising_numbers self.now.pending.entries) }
         ensures ordered { IsOrdered falling self.now.pending }
+        ensures few { self.now.pending.entries ≡ [] → IsOk result }
     {
         let mut numbers = Numbers::new(alloc);
         for (number, _) in self.pending.iter().rev() {
@@ -165,6 +163,7 @@ impl Tables {
         ensures numbers { IfOk result (λ ns. ns ≡ late_among [] self.now.holders) }
         ensures sorted { IfOk result (λ ns. IsStrictlySortedBy nat_cmp ns) }
         ensures unique { IfOk result (λ found. IsDistinct nat_eq (keys_of self.now.holders)) }
+        ensures few { self.now.holders ≡ [] → IsOk result }
     {
         let found = self.given_up(alloc)?;
         let numbers = listed(alloc, &found)?;
@@ -176,6 +175,7 @@ impl Tables {
         ensures found { IfOk result
             (λ found. found.keys ≡ late_among [] self.now.holders) }
         ensures unique { IfOk result (λ found. IsDistinct nat_eq (keys_of self.now.holders)) }
+        ensures few { self.now.holders ≡ [] → IsOk result }
     {
         let mut found = BTreeSet::new(alloc);
         let holders = self.holders.entries(alloc)?;
@@ -211,10 +211,29 @@ impl Tables {
     }
 }
 
+/// A request that is open has what it had before, or is open no more.
+fn restore(pending: &mut BTreeMap<Reverse<u64>, Pending>, n: u64, former: Option<Pending>)
+    requires { IsSome (pending_among pending.old.entries n) }
+    ensures restored { Updated pending.old pending.new n former }
+    ensures ordered { IsOrdered falling pending.new }
+{
+    match former {
+        Some(former) => {
+            let Ok(_) = pending.insert(Reverse(n), former) else {
+                unreachable!()
+            };
+        }
+        None => {
+            pending.remove(&Reverse(n));
+        }
+    }
+}
+
 /// The numbers of a set, in order.
 fn listed(alloc: Global, found: &BTreeSet<u64>) -> Result<Numbers, OutOfMemory>
     ensures numbers { IfOk result (λ ns. ns ≡ found.now.keys) }
     ensures sorted { IfOk result (λ ns. IsStrictlySortedBy nat_cmp ns) }
+    ensures few { found.now.keys ≡ [] → IsOk result }
 {
     let mut numbers = Numbers::new(alloc);
     for number in found {

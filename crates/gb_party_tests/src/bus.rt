@@ -157,8 +157,8 @@ fn connections_close(rt: HostRuntime) {
 
 /// On a connection that is gone nothing is made.
 const GONE: &[(Act, Seen)] = &[
-    (Act::Send(5, Side::Ap, false), Seen::NoLabel),
-    (Act::Send(5, Side::Far, true), Seen::NoLabel),
+    (Act::Send(5, Side::Ap, false), Seen::NoConnection),
+    (Act::Send(5, Side::Far, true), Seen::NoConnection),
     (Act::Spent(5, Side::Far), Seen::Spent(true)),
     (Act::Deliver(LIGHT, true), Seen::NoConnection),
     (Act::Spent(4, Side::Far), Seen::Spent(false)),

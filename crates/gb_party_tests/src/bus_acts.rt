@@ -80,6 +80,7 @@ pub fn sends(bus: &mut Bus, k: u64, side: Side, oneway: bool) -> Seen {
     match bus.send(k, side, PING, &[5], 500, oneway) {
         Ok(sent) => Seen::Sent(sent.number, sent.label, sent.lost),
         Err(SendFault::NoLabel) => Seen::NoLabel,
+        Err(SendFault::NoConnection) => Seen::NoConnection,
         Err(SendFault::Memory(_)) => Seen::NoMemory,
     }
 }
@@ -243,9 +244,13 @@ pub fn plays(rt: &impl Abort, alloc: Global, bus: &mut Bus, rows: &[(Act, Seen)]
 
 /// A CPort of a module is connected to one of the application processor.
 pub fn attaches(rt: &impl Abort, bus: &mut Bus, ap: u16, intf: u8, cport: u16, want: u64) {
-    let k = bus.attach(ap, intf, cport, 2).expect(rt, "memory");
-    assert_eq!(rt; k, want);
-    bus.wire(k).expect(rt, "memory");
+    match bus.attach(ap, intf, cport, 2) {
+        Ok(k) => {
+            assert_eq!(rt; k, want);
+            bus.wire(k).expect(rt, "memory");
+        }
+        Err(_) => assert!(rt; false),
+    }
 }
 
 /// Two modules of two CPorts each, wired: connections 2 to 5 join AP CPorts 4 to 1 with interfaces

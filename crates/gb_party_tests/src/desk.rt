@@ -8,8 +8,8 @@ ghost use Rattle.gb_formats.specs.ValidEvents.{IsName, IsValid};
 ghost use Rattle.gb_machine.specs.AskingEvents.{asks};
 ghost use Rattle.gb_machine.specs.Members.{IsIn};
 
-use gb_base::{Bytes, End, Event, Journal, Name, Word};
-use gb_desk::{Desk, DeskFault, Opened, Pass, Ticket, Told};
+use gb_base::{Bytes, End, Event, Name, Word};
+use gb_desk::{Desk, DeskFault, Journal, Opened, Pass, Ticket, Told};
 use gb_system::System;
 use std::alloc::Global;
 use std::process::Abort;
@@ -65,22 +65,26 @@ pub fn history(rt: &impl Abort, desk: Desk, pass: Pass) -> Journal
     requires none { (known pass).tickets ≡ [] }
 {
     let (system, journal) = desk.close(pass);
-    assert!(rt; system.taken() == journal.items().len() as u64);
+    assert!(rt; system.taken() == journal.len() as u64);
     drop(system);
     journal
 }
 
 /// The tag of an entry of the history, 0 where it hasn't so many.
 fn tag(journal: &Journal, at: usize) -> u8 {
-    match journal.items().get(at) {
-        Some(entry) => entry.by,
+    let mut events = journal.events();
+    for _ in 0..at {
+        events.next();
+    }
+    match events.next() {
+        Some(event) => event.by,
         None => 0,
     }
 }
 
 /// The events of two passes are in the order in which they were done.
 fn are_in_turn(rt: &impl Abort, journal: &Journal) {
-    assert!(rt; journal.items().len() == 3);
+    assert!(rt; journal.len() == 3);
     assert!(rt; tag(journal, 0) == 1 && tag(journal, 1) == 2 && tag(journal, 2) == 1);
 }
 

@@ -7,8 +7,8 @@ ghost use Rattle.gb_formats.specs.ValidEvents.{IsValid};
 ghost use Rattle.gb_machine.specs.AskingEvents.{asks};
 
 use crate::desk::{history, opened};
-use gb_base::{End, Event, Journal, Kind, Kinds};
-use gb_desk::{Desk, DeskFault, Pass};
+use gb_base::{End, Event, Kind, Kinds};
+use gb_desk::{Desk, DeskFault, Journal, Pass};
 use std::alloc::Global;
 use std::process::Abort;
 use std::thread;
@@ -99,12 +99,20 @@ fn all_at_once<R: Threads + Sync>(rt: &R, desk: &Desk, pass: &mut Pass, last: u8
 
 /// How many entries of the history have this tag.
 fn count(journal: &Journal, by: u8) -> usize {
-    journal.items().iter().filter(|e| e.by == by).count()
+    let mut events = journal.events();
+    let mut count = 0usize;
+    for _ in 0..journal.len() {
+        let Some(event) = events.next() else {
+            return count;
+        };
+        count = count.saturating_add(usize::from(event.by == by));
+    }
+    count
 }
 
 /// What the thread of each tag up to this one did is there, and nothing else.
 fn all_there(rt: &impl Abort, last: u8, journal: &Journal) {
-    assert!(rt; journal.items().len() == 300 * (usize::from(last) + 1));
+    assert!(rt; journal.len() == 300 * (usize::from(last) + 1));
     for by in 0..=last {
         assert!(rt; count(journal, by) == 300);
     }

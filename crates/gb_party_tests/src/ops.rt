@@ -48,7 +48,6 @@ const ROWS: &[(Act, Seen)] = &[
     (Act::Begin(3, 1000), Seen::Begun(1)),
     (Act::Begin(4, 900), Seen::Begun(2)),
     (Act::Begin(7, 2000), Seen::Begun(3)),
-    (Act::Begin(7, 2000), Seen::Refused),
     (Act::Begin(9, 1500), Seen::Begun(4)),
     (Act::Expire(899), Seen::Number(None)),
     (Act::Expire(1000), Seen::Number(Some(3))),
@@ -104,13 +103,13 @@ fn lists(rt: &impl Abort, told: Result<Numbers, OutOfMemory>, want: &[u64]) {
     assert!(rt; numbers.items() == want);
 }
 
-/// Requests 9 and 3 are given up, and 7 is open. A lesser number isn't begun while it is.
+/// Requests 9 and 3 are given up, and 7 and 5 are open.
 const LEFT: &[(Act, Seen)] = &[
     (Act::Begin(9, 0), Seen::Begun(1)),
     (Act::GiveUp(9), Seen::GaveUp(true)),
     (Act::Begin(3, 0), Seen::Begun(2)),
     (Act::Begin(7, 0), Seen::Begun(3)),
-    (Act::Begin(5, 0), Seen::Refused),
+    (Act::Begin(5, 0), Seen::Begun(4)),
     (Act::GiveUp(3), Seen::GaveUp(true)),
 ];
 
@@ -118,6 +117,6 @@ const LEFT: &[(Act, Seen)] = &[
 fn requests_are_listed_in_order(rt: HostRuntime) {
     let mut ops = Ops::new(rt.alloc()).expect(&rt, "memory");
     plays(&rt, &mut ops, LEFT);
-    lists(&rt, ops.unended(rt.alloc()), &[7]);
+    lists(&rt, ops.unended(rt.alloc()), &[5, 7]);
     lists(&rt, ops.late(rt.alloc()), &[3, 9]);
 }

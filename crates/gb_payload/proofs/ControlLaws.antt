@@ -13,27 +13,16 @@ use Rattle.gb_payload.specs.Meaning.{Means}
 use Rattle.gb_payload.specs.Protocols as formats
 use Rattle.gb_payload.specs.declared.fault.PayloadFault.{PayloadFault}
 use Rattle.gb_payload.proofs.Places.{same_record}
-use Rattle.gb_payload.proofs.Tables.{AreSpelt, ◌&◌, is_row, means_by_table}
+use Rattle.gb_payload.proofs.Tables.{AreSpelt, is_row, means_by_table}
 
 -- the rows of requests
 pub control_asks_spelt : AreSpelt control_ask_kind control_ask_payload control_asks
-control_asks_spelt =
-    record { widths = refl; kind = λ bytes. refl; payload = λ bytes. refl }
-    & record { widths = refl; kind = λ bytes. refl; payload = λ bytes. refl }
-    & record { widths = refl; kind = λ bytes. refl; payload = λ bytes. refl }
-    & record { widths = refl; kind = λ bytes. refl; payload = λ bytes. refl }
-    & record { widths = refl; kind = λ bytes. refl; payload = λ bytes. refl }
-    & record { widths = refl; kind = λ bytes. refl; payload = λ bytes. refl }
-    & tt
+control_asks_spelt = search parts 40
 
 -- each of them has a row
 pub control_asks_listed : (made : ControlAsk) → row_of control_asks (control_ask_kind made) ≢ None
 control_asks_listed (ControlAsk.Version major minor) = is_row _
-control_asks_listed ControlAsk.GetManifestSize = is_row _
-control_asks_listed ControlAsk.GetManifest = is_row _
-control_asks_listed (ControlAsk.Connected cport) = is_row _
-control_asks_listed (ControlAsk.Disconnected cport) = is_row _
-control_asks_listed (ControlAsk.Disconnecting cport) = is_row _
+control_asks_listed _ = is_row _
 
 -- the rows of responses
 pub control_replies_spelt : AreSpelt control_reply_kind control_reply_payload control_replies
@@ -42,12 +31,8 @@ control_replies_spelt = search rules
 -- each of them has a row
 pub control_replies_listed : (made : ControlReply)
     → control_reply_kind made ≢ 4 → row_of control_replies (control_reply_kind made) ≢ None
-control_replies_listed (ControlReply.Version major minor) other = is_row _
-control_replies_listed (ControlReply.GetManifestSize size) other = is_row _
 control_replies_listed (ControlReply.GetManifest bytes) other = absurd (other refl)
-control_replies_listed ControlReply.Connected other = is_row _
-control_replies_listed ControlReply.Disconnected other = is_row _
-control_replies_listed ControlReply.Disconnecting other = is_row _
+control_replies_listed _ other = is_row _
 
 -- what reading a response means: that of GET_MANIFEST is the manifest
 pub control_reply_means : {B : Type 0} (view : B → ControlReply) (kind : ℕ) (payload : List ℕ)

@@ -1,13 +1,8 @@
 -- The texts of the dump are ASCII.
-use Rattle.std.proofs.Common.{◌≡◌, ℕ, suc, ◌<◌, Bool, true, false, if◌then◌else◌, List, [], ◌∷◌}
-use Rattle.std.proofs.Common.{◌++◌, refl, sym, codes, nat_lt, IsAscii, ◌∙◌, ◌&&◌, arith}
+use Rattle.std.proofs.Common.{◌≡◌, ℕ, Bool, true, false, if◌then◌else◌, List, [], ◌∷◌, ◌++◌, refl}
+use Rattle.std.proofs.Common.{codes, IsAscii, ◌∙◌, arith}
 use Rattle.std.specs.Fmt.{decimal}
-use Rattle.std.specs.List.{list_all}
 use Rattle.std.proofs.lemmas.Bool.Decides.{nat_tests}
-use Rattle.std.proofs.lemmas.Str.Ascii.{IsAscii-cons, IsAscii-nil}
-use Rattle.gb_base.specs.declared.entry.Entry.{Entry}
-use Rattle.gb_base.specs.declared.entry.Entry.TheVariants as entry
-use Rattle.gb_base.specs.declared.fault.Reason.{Reason}
 use Rattle.gb_formats.specs.Bytes.{byte_text, joined}
 use Rattle.gb_formats.specs.Descriptors.{Descriptor}
 use Rattle.gb_formats.specs.Dump.{check_text, descriptor_line, descriptors_text, dump_text}
@@ -15,59 +10,7 @@ use Rattle.gb_formats.specs.Dump.{refused_text, stands_as_is, string_byte_text, 
 use Rattle.gb_formats.specs.Manifest.{Manifest}
 use Rattle.gb_formats.specs.ManifestRules.{Refused}
 use Rattle.gb_formats.specs.Reasons.{reason_text}
-use Rattle.gb_formats.specs.Texts.{IsWordOf, ended, entry_line, entry_text}
-use Rattle.gb_formats.proofs.Ascii.{IsAscii-entry_text}
-
-abbrev pub is_ascii : List ℕ → Bool
-is_ascii bs = list_all (λ b. nat_lt b 128) bs
-
-pub seen : (bs : List ℕ) → is_ascii bs ≡ true → IsAscii bs
-seen [] h = IsAscii-nil
-seen (b ∷ bs) h = IsAscii-cons b bs (grind (arith, nat_tests)) (seen bs (grind (arith, nat_tests)))
-
-tested : (bs : List ℕ) → IsAscii bs → is_ascii bs ≡ true
-tested [] h = refl
-tested (b ∷ bs) h =
-    let first : b < 128 = h 0 in
-    rw (tested bs (λ i. h (suc i))) (grind (arith, nat_tests))
-
-pub cat : (xs ys : List ℕ) → is_ascii (xs ++ ys) ≡ is_ascii xs && is_ascii ys
-cat [] ys = refl
-cat (b ∷ bs) ys = rw (cat bs ys) (grind (arith, nat_tests))
-
-left : (a b : Bool) → (a && b) ≡ true → a ≡ true
-left true b h = refl
-left false b h = absurd cc
-
-front : (xs ys : List ℕ) → is_ascii (xs ++ ys) ≡ true → is_ascii xs ≡ true
-front xs ys h = left (is_ascii xs) (is_ascii ys) (sym (cat xs ys) ∙ h)
-
--- what the report has for entries with no text of their own
-line_is : (e : Entry) → ((text : List ℕ) → IsWordOf text e → ⊥)
-    → is_ascii (entry_text 0 false e) ≡ true
-line_is e h = tested (entry_text 0 false e)
-    (IsAscii-entry_text 0 false e (λ text is. absurd (h text is)))
-
-pub dec : (n : ℕ) → is_ascii (decimal n) ≡ true
-dec n = front (decimal n) (10 ∷ []) (line_is (entry.Settled n) (λ text is. is))
-
-pub byte : (b : ℕ) → is_ascii (byte_text b) ≡ true
-byte b = front (byte_text b) (10 ∷ []) (line_is (entry.Ignored b) (λ text is. is))
-
-right : (a b : Bool) → (a && b) ≡ true → b ≡ true
-right true b h = h
-right false b h = absurd cc
-
-behind : (xs ys : List ℕ) → is_ascii (xs ++ ys) ≡ true → is_ascii ys ≡ true
-behind xs ys h = right (is_ascii xs) (is_ascii ys) (sym (cat xs ys) ∙ h)
-
-pub because : (why : Reason) → is_ascii (reason_text why) ≡ true
-because why =
-    let whole = front (entry_line 0 false (entry.Manifest 0 0 why)) (10 ∷ [])
-    (line_is (entry.Manifest 0 0 why) (λ text is. is)) in
-    behind (decimal 0) (codes " " ++ reason_text why)
-    (behind (decimal 0)
-    (codes " refused " ++ (decimal 0 ++ (codes " " ++ reason_text why))) whole)
+use Rattle.gb_formats.proofs.Ascii.{because, byte, cat, dec, end_of_line, is_ascii, seen}
 
 -- a byte of a string
 escaped : (b : ℕ) → is_ascii (codes "\\x" ++ byte_text b) ≡ true
@@ -89,9 +32,6 @@ line (Descriptor.Interface v p f) = simp (cat, dec, byte)
 line (Descriptor.Words id bs) = simp (cat, dec, string)
 line (Descriptor.Bundle id class) = simp (cat, dec, byte)
 line (Descriptor.Cport id bundle protocol) = simp (cat, dec, byte)
-
-pub end_of_line : (l : List ℕ) → is_ascii l ≡ true → IsAscii (ended l)
-end_of_line l h = seen (ended l) (cat l (10 ∷ []) ∙ rw h refl)
 
 descriptors : (ds : List Descriptor) → is_ascii (descriptors_text ds) ≡ true
 descriptors [] = refl

@@ -1,10 +1,11 @@
-pub mod Numbers
+pub mod Cuts
+pub mod Handed
 pub mod HexWords
+pub mod LineBuffers
 pub mod MadeSteps
+pub mod Numbers
 pub mod Operations
 pub mod PartReading
-pub mod Cuts
-pub mod Fronts
+pub mod PlainLines
 pub mod Readings
 pub mod TextLines
-pub mod Handed

@@ -5,8 +5,8 @@ use Rattle.std.proofs.Common.{arith, ◌&&◌}
 use Rattle.std.specs.Prelude.{nat_le, length, ⊤}
 use Rattle.std.specs.Bool.{then_some}
 use Rattle.std.proofs.lemmas.Bool.Decides.{nat_tests}
-use Rattle.gb_base.specs.declared.fault.LineReason.{LineReason}
-use Rattle.gb_base.specs.declared.fault.LineReason.TheVariants as bad
+use Rattle.gb_base.specs.declared.reasons.LineReason.{LineReason}
+use Rattle.gb_base.specs.declared.reasons.LineReason.TheVariants as bad
 use Rattle.gb_base.specs.declared.parts.Parts.{Parts}
 use Rattle.gb_formats.proofs.JudgedValid.{judged-says_valid}
 use Rattle.gb_formats.proofs.SaidValid.{SaysValid}

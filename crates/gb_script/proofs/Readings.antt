@@ -11,7 +11,7 @@ use Rattle.std.proofs.lemmas.List.{length-take, take-append-drop, take-take, tak
 use Rattle.std.proofs.lemmas.List.Folds.{list_any-append, list_any_at}
 use Rattle.memchr.specs.Find.{IsFirstByte, Nowhere, Passes, is_byte}
 use Rattle.gb_formats.specs.Lines.{is_lf}
-use Rattle.gb_script.specs.Fronts.{IsFront}
+use Rattle.gb_script.specs.LineBuffers.{HoldsLine}
 use Rattle.gb_script.specs.Pieces.{EndsAt, Fills, HasNoLf, TellsLf, has_lf}
 use Rattle.gb_script.specs.Reading.{IsBeyond, IsEnded, ReadsLine, Took, to_come}
 use Rattle.gb_script.specs.declared.held.Held.{Held}
@@ -105,7 +105,7 @@ lf-told bytes (Some n) h = sym (lf-held bytes n h)
 
 -- a reader of lines whose held bytes are now these
 abbrev pub refilled : Held → List ℕ → Held
-refilled at piece = record { piece = piece; front = at.front; room = at.room }
+refilled at piece = record { piece = piece; buffer = at.buffer; room = at.room }
 
 -- `at` has all that came of the line so far, and then holds `piece`
 module _ (old at : Held) (piece : List ℕ) (left between after : Option (List ℕ)) (more : Bool)
@@ -124,9 +124,9 @@ module _ (old at : Held) (piece : List ℕ) (left between after : Option (List �
       (consumes-some (to_come old left) after raw piece count filled)
 
   -- its LF is held
-  pub line-ended : (new : Held) (n : ℕ) → IsFront at.front raw → EndsAt piece n
+  pub line-ended : (new : Held) (n : ℕ) → HoldsLine at.buffer raw → EndsAt piece n
       → Took (refilled at piece) new n (n + 1) → IsEnded old new left after
-  line-ended new n front e took = record {
+  line-ended new n kept e took = record {
     raw = raw ++ take n piece;
     plain = plain-both raw (take n piece) plain e.plain;
     taken =
@@ -135,7 +135,7 @@ module _ (old at : Held) (piece : List ℕ) (left between after : Option (List �
         (take_more piece n 0 e.within ∙ ap (λ b. take n piece ++ b ∷ []) e.lf)
         ∙ sym (append_assoc raw (take n piece) (10 ∷ [])))
         (took-on new n (n + 1) took);
-    front = took.front raw front;
+    kept = took.kept raw kept;
     room =
         rw (length-append raw (take n piece), length-take n piece)
         (omega (arith, room, took.room, e.within));

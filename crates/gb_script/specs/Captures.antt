@@ -1,7 +1,7 @@
 -- What a read line of a capture holds.
 use Rattle.std.specs.Prelude.{Bool, Option, Some, None, Result, Ok, Err, List, ℕ}
 use Rattle.std.specs.Borrow.{Bor}
-use Rattle.gb_base.specs.declared.fault.LineReason.{LineReason}
+use Rattle.gb_base.specs.declared.reasons.LineReason.{LineReason}
 use Rattle.gb_formats.specs.Captures.{Holds}
 
 -- what is held, with the bytes by themselves

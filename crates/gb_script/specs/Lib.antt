@@ -1,5 +1,5 @@
 pub mod Captures
-pub mod Fronts
+pub mod LineBuffers
 pub mod Making
 pub mod PartLines
 pub mod Parts

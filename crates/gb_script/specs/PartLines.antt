@@ -1,7 +1,7 @@
 -- What is read of a script with requesters.
 use Rattle.std.specs.Prelude.{◌≡◌, ◌≤◌, ℕ, Result, Ok, Err, List, [], ◌∷◌, ◌++◌, ⊤}
 use Rattle.std.specs.List.{AllByRecursion}
-use Rattle.gb_base.specs.declared.fault.LineReason.{LineReason}
+use Rattle.gb_base.specs.declared.reasons.LineReason.{LineReason}
 use Rattle.gb_base.specs.declared.parts.Asked.{Asked}
 use Rattle.gb_base.specs.declared.parts.Parts.{Parts}
 use Rattle.gb_formats.specs.Parts as formats

@@ -9,7 +9,7 @@ use Rattle.gb_base.specs.declared.event.Event.{Event}
 use Rattle.gb_base.specs.declared.end.End.{End}
 use Rattle.gb_base.specs.declared.end.End.TheVariants as end
 use Rattle.gb_base.specs.declared.event.Event.TheVariants as event
-use Rattle.gb_base.specs.declared.fault.LineReason.TheVariants as bad
+use Rattle.gb_base.specs.declared.reasons.LineReason.TheVariants as bad
 use Rattle.gb_base.specs.declared.name.Name.{Name}
 use Rattle.gb_formats.specs.BridgeForms.{gpio_asking, gpio_form, i2c_asking, i2c_form, i2c_op_word}
 use Rattle.gb_formats.specs.BridgeForms.{loopback_asking, loopback_form}

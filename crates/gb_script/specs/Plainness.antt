@@ -1,7 +1,7 @@
 -- What a line is by its length and its bytes.
 use Rattle.std.specs.Prelude.{◌≡◌, ℕ, Bool, Option, Result, Ok, Err, List}
 use Rattle.gb_base.specs.declared.event.Event.{Event}
-use Rattle.gb_base.specs.declared.fault.LineReason.{LineReason}
+use Rattle.gb_base.specs.declared.reasons.LineReason.{LineReason}
 use Rattle.gb_formats.specs.Parts.{Part}
 use Rattle.gb_formats.specs.Script.{by_bytes}
 

@@ -3,7 +3,7 @@ use Rattle.std.specs.Prelude.{◌≡◌, ◌<◌, ◌≤◌, ◌+◌, ℕ, Bool,
 use Rattle.std.specs.Prelude.{Ok, Err, List, [], ◌∷◌, ◌++◌, length, take}
 use Rattle.std.specs.Io.KnownBytes.{Consumes, IsAtEnd}
 use Rattle.gb_formats.specs.Lines.{ended_lines, lines, longest_input}
-use Rattle.gb_script.specs.Fronts.{IsText, is_long_text}
+use Rattle.gb_script.specs.LineBuffers.{HoldsText, is_long_text}
 use Rattle.gb_script.specs.Pieces.{has_lf}
 use Rattle.gb_script.specs.Reading.{to_come}
 use Rattle.gb_script.specs.declared.held.LineStop.{LineStop}
@@ -23,7 +23,7 @@ CountsOn old new false = number_of new ≡ number_of old
 
 -- the line that was handed out last is this one
 abbrev pub Lends : LineReader → List ℕ → Type 0
-Lends x line = IsText x.held.front line
+Lends x line = HoldsText x.held.buffer line
 
 -- what is handed out of a line: its first 8,192 bytes, and whether there are more
 abbrev pub IsLineOf : (bytes : List ℕ) → (long : Bool) → List ℕ → Type 0

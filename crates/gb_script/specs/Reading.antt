@@ -2,7 +2,7 @@
 use Rattle.std.specs.Prelude.{◌≡◌, ◌<◌, ◌≤◌, ◌+◌, ℕ, Bool, true, false, Option, Result, Ok, Err}
 use Rattle.std.specs.Prelude.{List, [], ◌∷◌, ◌++◌, length, take, drop}
 use Rattle.std.specs.Io.KnownBytes.{Consumes, IsAtEnd, prepend_known}
-use Rattle.gb_script.specs.Fronts.{IsFront}
+use Rattle.gb_script.specs.LineBuffers.{HoldsLine}
 use Rattle.gb_script.specs.Pieces.{HasNoLf}
 use Rattle.gb_script.specs.declared.held.Held.{Held}
 use Rattle.gb_script.specs.declared.held.LineStop.{LineStop}
@@ -15,7 +15,8 @@ to_come h left = prepend_known h.piece left
 -- so many bytes within the limit were taken, and the first n of them are of the line
 pub record Took (old new : Held) (n count : ℕ) : Type 0 where
   pub taken : new.piece ≡ drop count old.piece
-  pub front : (raw : List ℕ) → IsFront old.front raw → IsFront new.front (raw ++ take n old.piece)
+  pub kept : (raw : List ℕ) → HoldsLine old.buffer raw
+      → HoldsLine new.buffer (raw ++ take n old.piece)
   pub room : count + new.room ≡ old.room
 
 -- ---- one line
@@ -25,7 +26,7 @@ pub record IsEnded (old new : Held) (left left_after : Option (List ℕ)) : Type
   pub raw : List ℕ
   pub plain : HasNoLf raw
   pub taken : Consumes (to_come old left) (to_come new left_after) (raw ++ 10 ∷ [])
-  pub front : IsFront new.front raw
+  pub kept : HoldsLine new.buffer raw
   pub room : length raw + 1 + new.room ≡ old.room
 
 -- these bytes came, and then the end
@@ -34,7 +35,7 @@ pub record IsLast (old new : Held) (left left_after : Option (List ℕ)) : Type 
   pub plain : HasNoLf raw
   pub taken : Consumes (to_come old left) (to_come new left_after) raw
   pub at_end : IsAtEnd (to_come new left_after)
-  pub front : IsFront new.front raw
+  pub kept : HoldsLine new.buffer raw
   pub room : length raw + new.room ≡ old.room
 
 -- these bytes came, and then the source failed

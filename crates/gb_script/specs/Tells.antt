@@ -4,7 +4,7 @@ use Rattle.std.specs.Prelude.{Ok, Err, ⊤}
 use Rattle.gb_base.specs.declared.bridge.BridgeAsk.{BridgeAsk}
 use Rattle.gb_base.specs.declared.event.Event.{Event}
 use Rattle.gb_base.specs.declared.event.Kind.{Kind}
-use Rattle.gb_base.specs.declared.fault.LineReason.{LineReason}
+use Rattle.gb_base.specs.declared.reasons.LineReason.{LineReason}
 use Rattle.gb_formats.specs.Grammar.{Said, or_more_kinds}
 use Rattle.gb_formats.specs.Said.{Rest, each_word, next_cport, next_word}
 use Rattle.gb_script.specs.declared.fault.LineFault.{LineFault}

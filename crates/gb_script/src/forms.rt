@@ -10,7 +10,7 @@ use crate::bridges::{Protocol, request};
 use crate::deliveries::{answer, deliver, inject, settle, tick};
 use crate::firmware::{image, load};
 use crate::gpio::gpio;
-use crate::interfaces::{connect, disconnect, hold, insert, pull};
+use crate::interfaces::{connect, disconnect, insert, only_cport, pull};
 use crate::requests::{cancel, copy, forget, send};
 use crate::rest::Rest;
 use crate::uart::uart;
@@ -49,7 +49,8 @@ pub fn form(alloc: Global, first: &[u8], rest: &Rest<'_>, who: u8) -> Result<Eve
         return settle(rest);
     }
     if is(first, "hold") {
-        return hold(rest);
+        let (intf, cport) = only_cport(rest)?;
+        return Ok(Event::Hold { intf, cport });
     }
     if is(first, "answer") {
         return answer(rest);

@@ -4,7 +4,7 @@ ghost use Rattle.std.specs.Prelude.{◌≡◌, ◌<◌, ◌≤◌, ◌+◌, [], 
 ghost use Rattle.std.specs.Prelude.{MatchResult};
 ghost use Rattle.gb_base.specs.Faults.{Rose};
 
-use crate::front::Front;
+use crate::line_buffer::LineBuffer;
 use crate::piece::Piece;
 use gb_base::{Failed, OutOfMemory, Source};
 use std::alloc::Global;
@@ -36,7 +36,7 @@ impl From<Failed> for LineStop {
 #[derive(Drop)]
 pub struct Held {
     pub piece: Piece,
-    pub front: Front,
+    pub buffer: LineBuffer,
     /// How many bytes may still be taken.
     pub room: usize,
 }
@@ -52,7 +52,7 @@ impl Held {
     {
         Ok(Held {
             piece: Piece::new(alloc)?,
-            front: Front::new(alloc)?,
+            buffer: LineBuffer::new(alloc)?,
             room: LONGEST_INPUT,
         })
     }
@@ -70,7 +70,7 @@ impl Held {
         ensures cause { IsErrOf result LineStop.ReadFault
             → Rose (S.faults source.old) (S.faults source.new) }
     {
-        self.front.clear();
+        self.buffer.clear();
         while self.piece.fill(source)? {
             if let Some(n) = self.piece.before_lf() {
                 self.take(n, n + 1)?;
@@ -85,7 +85,7 @@ impl Held {
     /// Takes the next `count` bytes, whose first `n` are of the line.
     fn take(&mut self, n: usize, count: usize) -> Result<(), LineStop>
         requires count { (n ≤ count) × (count ≤ length self.old.piece) }
-        requires room { self.old.front.size + self.old.room ≤ 1048576 }
+        requires room { self.old.buffer.size + self.old.room ≤ 1048576 }
         ensures { MatchResult result (λ _. Took self.old self.new n count)
             (λ e. (e ≡ LineStop.TooLong) × (self.new ≡ self.old) × (self.old.room < count)) }
     {
@@ -93,7 +93,7 @@ impl Held {
             return Err(LineStop::TooLong);
         }
         self.room -= count;
-        self.front.append(&self.piece.left()[..n]);
+        self.buffer.append(&self.piece.left()[..n]);
         self.piece.consume(count);
         Ok(())
     }

@@ -5,7 +5,7 @@ ghost use Rattle.gb_formats.specs.WordValues.{hex_digits, hex_word, type_word};
 
 use crate::words::is;
 use gb_base::{Bytes, OutOfMemory};
-use hex::{FromHex, FromHexError};
+use hex::FromHex;
 use std::alloc::Global;
 
 /// HEX: an even number of hex digits, at least two, in either case; or `-` for no bytes.
@@ -26,9 +26,9 @@ fn hex_digits(alloc: Global, word: &[u8]) -> Result<Option<Bytes>, OutOfMemory>
     if word.is_empty() {
         return Ok(None);
     }
-    match hex::decode(alloc, word) {
-        Ok(bytes) => Ok(Some(Bytes::from_vec(bytes))),
-        Err(FromHexError::OutOfMemory) => Err(OutOfMemory),
+    let mut bytes = vec![in alloc; 0; word.len() / 2]?;
+    match hex::decode_to_slice(word, bytes.as_mut_slice()) {
+        Ok(()) => Ok(Some(Bytes::from_vec(bytes))),
         Err(_) => Ok(None),
     }
 }

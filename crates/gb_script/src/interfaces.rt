@@ -151,14 +151,6 @@ fn disconnect_how(intf: u8, cport: u16, rest: &Rest<'_>) -> Result<Event, LineFa
     Ok(Event::Drain { intf, cport })
 }
 
-/// `hold I C`.
-pub fn hold(rest: &Rest<'_>) -> Result<Event, LineFault>
-    ensures { Says result (of_cport event.Hold rest.now) }
-{
-    let (intf, cport) = only_cport(rest)?;
-    Ok(Event::Hold { intf, cport })
-}
-
 /// `I C` as the only words behind the first.
 pub fn only_cport(rest: &Rest<'_>) -> Result<(u8, u16), LineFault>
     ensures { MatchResult result

@@ -94,13 +94,13 @@ impl LineReader {
     {
         match self.held.read_line(source) {
             Ok(true) => {
-                self.held.front.drop_cr();
+                self.held.buffer.drop_cr();
                 self.number += 1;
                 Ok(true)
             }
             Ok(false) => {
                 self.progress = Progress::Ended;
-                if self.held.front.is_empty() {
+                if self.held.buffer.is_empty() {
                     return Ok(false);
                 }
                 self.number += 1;
@@ -128,8 +128,8 @@ impl LineReader {
     {
         Line {
             number: self.number,
-            bytes: self.held.front.text(),
-            long: self.held.front.is_long(),
+            bytes: self.held.buffer.text(),
+            long: self.held.buffer.is_long(),
         }
     }
 }

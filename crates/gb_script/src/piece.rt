@@ -41,11 +41,8 @@ impl Piece {
     pub fn new(alloc: Global) -> Result<Piece, OutOfMemory>
         ensures { IfOk result (λ p. p ≡ []) }
     {
-        let Ok(bytes) = vec![in alloc; 0; PIECE] else {
-            return Err(OutOfMemory);
-        };
         Ok(Piece {
-            bytes,
+            bytes: vec![in alloc; 0; PIECE]?,
             start: 0,
             end: 0,
             lf: None,

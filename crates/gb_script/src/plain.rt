@@ -2,6 +2,7 @@
 
 ghost use Rattle.std.specs.Prelude.{◌≡◌, ◌+◌, ◌≤◌, ◌<◌, true, false, Some, None, nat_le, length};
 ghost use Rattle.std.specs.Prelude.{OnOk};
+ghost use Rattle.std.specs.List.{list_all};
 ghost use Rattle.gb_formats.specs.Script.{is_printable};
 ghost use Rattle.gb_script.specs.Plainness.{JudgesCapture, JudgesPart, JudgesScript};
 
@@ -20,6 +21,9 @@ pub fn plain(line: &[u8]) -> Result<(), LineReason>
     if line.len() > LONGEST_LINE {
         return Err(LineReason::Long);
     }
+    if are_printable(line) {
+        return Ok(());
+    }
     let mut place = 1;
     for b in line {
         if !is_printable(*b) {
@@ -28,6 +32,17 @@ pub fn plain(line: &[u8]) -> Result<(), LineReason>
         place += 1;
     }
     Ok(())
+}
+
+/// Whether all bytes are printable ASCII. All are looked at, which is done for many at once.
+fn are_printable(line: &[u8]) -> bool
+    ensures { result ≡ list_all is_printable line.now }
+{
+    let mut printable = true;
+    for b in line {
+        printable &= is_printable(*b);
+    }
+    printable
 }
 
 /// Whether a byte is printable ASCII.

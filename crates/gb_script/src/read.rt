@@ -23,5 +23,5 @@ pub fn event(alloc: Global, line: &[u8], who: u8) -> Result<Option<Event>, LineF
         return Ok(None);
     }
     let rest = Rest::behind_first(rest);
-    form(alloc, first, &rest, who).map(Some)
+    Ok(Some(form(alloc, first, &rest, who)?))
 }

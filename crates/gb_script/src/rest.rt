@@ -3,7 +3,7 @@
 ghost use Rattle.std.specs.Prelude.{◌≡◌, ◌≤◌, [], length, Some, None, IfOk, MatchOption};
 ghost use Rattle.std.specs.Prelude.{MatchResult};
 ghost use Rattle.gb_base.specs.declared.event.Event.{Event};
-ghost use Rattle.gb_base.specs.declared.fault.LineReason.TheVariants as bad;
+ghost use Rattle.gb_base.specs.declared.reasons.LineReason.TheVariants as bad;
 ghost use Rattle.gb_formats.specs.BridgeForms.{literal_word};
 ghost use Rattle.gb_formats.specs.Said.{at_end};
 ghost use Rattle.gb_formats.specs.WordValues.{intf_word, cport_word, count_word, from_one_word};

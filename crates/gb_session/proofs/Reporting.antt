@@ -8,8 +8,8 @@ use Rattle.std.proofs.lemmas.Bool.Decides.{nat_tests}
 use Rattle.std.proofs.lemmas.List.{take_all}
 use Rattle.gb_base.specs.declared.entry.Entry.{Entry}
 use Rattle.gb_base.specs.declared.event.Event.{Event}
-use Rattle.gb_base.specs.declared.fault.LineReason.{LineReason}
-use Rattle.gb_base.specs.declared.fault.LineReason.TheVariants as bad
+use Rattle.gb_base.specs.declared.reasons.LineReason.{LineReason}
+use Rattle.gb_base.specs.declared.reasons.LineReason.TheVariants as bad
 use Rattle.gb_formats.specs.Grammar.{Said, asked_for}
 use Rattle.gb_formats.specs.Script.{bad_place, unless_bad}
 use Rattle.gb_formats.specs.Texts.{entries_text, refusal_line_text}

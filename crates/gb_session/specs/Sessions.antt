@@ -41,8 +41,8 @@ StandsBy None hex n s = ⊥
 StandsBy (Some x) hex n s =
     (shows_bytes x ≡ hex) × (number_of x ≡ n) × reporter.Stands x s
 
--- A session stands for a state: n lines were taken, and `hex` is whether the bytes of messages are
--- shown.
+-- A session stands for a state: n lines were taken, and `hex` is whether the bytes of messages
+-- are shown.
 abbrev pub Stands : Session → Bool → ℕ → State → Type 0
 Stands x hex n s = StandsBy x.reporter hex n s
 

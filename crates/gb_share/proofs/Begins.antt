@@ -17,7 +17,8 @@ use Rattle.gb_machine.specs.State.{State, first_state}
 use Rattle.gb_share.specs.Doing.{events_by}
 use Rattle.gb_share.specs.Fulls.{AreExact, ComeLate, DoAsk}
 use Rattle.gb_share.specs.Lines.{before_full, ran}
-use Rattle.gb_share.specs.Parting.{AreRequesters, lines_by}
+use Rattle.gb_share.specs.Parting.{AreRequesters}
+use Rattle.gb_share.specs.Picks.{lines_by}
 use Rattle.gb_share.specs.Placing.{ArePlaced, Begins, left, left_by, marked}
 use Rattle.gb_share.specs.Requesters.{AreSame, AreWhole, ran_by, ran_of}
 use Rattle.gb_share.specs.Shares.{AreLate, IsRunOf}

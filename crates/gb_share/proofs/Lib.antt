@@ -33,3 +33,4 @@ pub mod Rooms
 pub mod Alones
 pub mod HandSteps
 pub mod AloneEnds
+pub mod Picking

@@ -2,7 +2,6 @@
 use Rattle.std.proofs.Common.{◌≡◌, ◌⊎◌, ℕ, zero, suc, ◌+◌, ◌<◌, ◌≤◌, inl, inr, ⊎_elim, Bool, true}
 use Rattle.std.proofs.Common.{false, Some, List, [], ◌∷◌, ◌++◌, length, refl, sym, ap, ◌∙◌, arith}
 use Rattle.std.proofs.Common.{append_assoc, subst}
-use Rattle.std.proofs.Math.ListN.{get_or}
 use Rattle.std.proofs.lemmas.List.{append-nil, length-append}
 use Rattle.std.specs.List.{slice_get}
 use Rattle.std.specs.Prelude.{if◌then◌else◌}
@@ -31,21 +30,11 @@ ran_next (x ∷ xs) (n ∷ ns) m l at =
     ap (λ es. marked n x.event ++ es) (ran_next xs ns m l at)
     ∙ sym (append_assoc (marked n x.event) (ran xs ns) (marked m l.event))
 
--- a member that was read
-get_there : {A : Type 0} (xs : List A) (k : ℕ) (x : A) → k < length xs → x ≡ get_or xs k x
-    → slice_get xs k ≡ Some x
-get_there [] k x within is = absurd (omega arith)
-get_there (y ∷ ys) zero x within is = ap (λ z. Some z) (sym is)
-get_there (y ∷ ys) (suc k) x within is = get_there ys k x (omega arith) is
-
 -- the line behind those that have a mark
-pub read_there : (ls' ls : List Asked) (ms' ms : List Bool) (l : Asked) → ls' ≡ ls → ms' ≡ ms
-    → length ms < length ls → l ≡ get_or ls' (length ms') l
-    → slice_get ls (length ms) ≡ Some l
-read_there ls' ls ms' ms l lines marks within is =
-    get_there ls (length ms) l within
-    (is ∙ (ap (λ xs. get_or xs (length ms') l) lines
-    ∙ ap (λ (ns : List Bool). get_or ls (length ns) l) marks))
+pub read_there : (ls : List Asked) (ms' ms : List Bool) (l : Asked) → ms' ≡ ms
+    → slice_get ls (length ms') ≡ Some l → slice_get ls (length ms) ≡ Some l
+read_there ls ms' ms l marks at =
+    subst (λ (ns : List Bool). slice_get ls (length ns) ≡ Some l) marks at
 
 pub snoc_get : {A : Type 0} (xs : List A) (x y : A) (n : ℕ) → slice_get (xs ++ x ∷ []) n ≡ Some y
     → (slice_get xs n ≡ Some y) ⊎ ((n ≡ length xs) × (x ≡ y))

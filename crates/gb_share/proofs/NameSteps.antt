@@ -8,13 +8,13 @@ use Rattle.gb_base.specs.declared.end.Side.TheVariants as side
 use Rattle.gb_base.specs.declared.event.Event.{Event}
 use Rattle.gb_base.specs.declared.event.Event.TheVariants as event
 use Rattle.gb_base.specs.declared.name.Name.{Name}
-use Rattle.gb_base.specs.declared.peers.Link.{Link}
+use Rattle.gb_base.specs.declared.interface.Link.{Link}
 use Rattle.gb_base.specs.declared.refusal.Refusal.{Refusal}
 use Rattle.gb_base.specs.declared.refusal.Refusal.TheVariants as why
 use Rattle.gb_formats.specs.Bridges.{ask_request, bridge_answer}
 use Rattle.gb_formats.specs.Grammar.{default_timeout}
 use Rattle.gb_formats.specs.ValidEvents.{IsFar, IsValid}
-use Rattle.gb_laws.proofs.credits.CreditsLines.{answered-by}
+use Rattle.gb_machine.proofs.BridgeAnswers.{answered-by}
 use Rattle.gb_machine.proofs.Conditions.{AreUnmet, free}
 use Rattle.gb_machine.proofs.Options.{none-of}
 use Rattle.gb_machine.proofs.Steps.{step-does, step-refused}
@@ -26,13 +26,14 @@ use Rattle.gb_machine.specs.HostRefusals.{bridge_conditions}
 use Rattle.gb_machine.specs.LineActions.{ap_draft, bridge_sent, bridges, copies, sends, sends_on}
 use Rattle.gb_machine.specs.LineActions.{spent}
 use Rattle.gb_machine.specs.Lists.{conditions_of, without}
-use Rattle.gb_machine.specs.Names.{bound, is_bound, named, same_name}
+use Rattle.gb_machine.specs.Names.{bound, freed, is_bound, named, same_name}
 use Rattle.gb_machine.specs.Refusals.{conditions, has_no_label, refusal}
 use Rattle.gb_machine.specs.State.{State}
-use Rattle.gb_share.proofs.NamesKept.{keeps_asks, keeps_boots, keeps_cancels, keeps_drains}
-use Rattle.gb_share.proofs.NamesKept.{keeps_loads, keeps_notices, keeps_on_host, keeps_plugs}
+use Rattle.gb_share.proofs.NamesKept.{keeps_asks, keeps_boots, keeps_by_state, keeps_cancels}
+use Rattle.gb_share.proofs.NamesKept.{keeps_change, keeps_drains, keeps_given, keeps_loads}
+use Rattle.gb_share.proofs.NamesKept.{keeps_notices, keeps_on_host, keeps_plugs}
 use Rattle.gb_share.proofs.NamesKept.{keeps_pulls, keeps_stirs, keeps_ticks}
-use Rattle.gb_share.proofs.NamesServed.{keeps_answers, keeps_delivers, keeps_holds, keeps_injects}
+use Rattle.gb_share.proofs.NamesServed.{keeps_answers, keeps_delivers, keeps_injects}
 use Rattle.gb_share.proofs.NamesServed.{keeps_settles, keeps_shows}
 use Rattle.gb_system.proofs.BoundNames.{apart-bound, apart-freed}
 use Rattle.gb_system.specs.NameOrder.{AreApart}
@@ -115,35 +116,44 @@ names_copied x y s = by (named x s.names)
     by None = refl
     by (Some n) = refl
 
+names_freed : (name : Name) (s : State)
+    → (change (freed name) s).state.names ≡ without (λ p. same_name p.0 name) s.names
+unfolding change
+names_freed name s = refl
+
 -- ---- all events
+
+-- what actions keep names
+ruleset keeping = (
+  keeps_boots,
+  keeps_plugs,
+  keeps_pulls,
+  keeps_notices,
+  keeps_drains,
+  keeps_stirs,
+  keeps_delivers,
+  keeps_settles,
+  keeps_answers,
+  keeps_cancels,
+  keeps_ticks,
+  keeps_injects,
+  keeps_on_host,
+  keeps_loads,
+  keeps_shows,
+  keeps_by_state,
+  keeps_given,
+  keeps_change,
+)
 
 names_done : (s : State) (e : Event) → IsValid e → refusal s e ≡ None
     → (does e s).state.names ≡ renamed s e
-unfolding does change
-names_done s event.Boot valid allowed = keeps_boots s
-names_done s (event.Insert i kinds) valid allowed = keeps_plugs i _ s
-names_done s (event.InsertRaw i manifest) valid allowed = keeps_plugs i _ s
-names_done s (event.Pull i) valid allowed = keeps_pulls i s
-names_done s (event.Connect i c) valid allowed = keeps_notices _ s
-names_done s (event.Disconnect i c) valid allowed = keeps_notices _ s
-names_done s (event.Drain i c) valid allowed = keeps_drains i c s
+unfolding does
 names_done s (event.Send name to kind payload timeout) valid allowed =
     names_sent name to kind payload timeout s valid.1 allowed
 names_done s (event.Bridge name i c what) valid allowed = names_bridged name i c what s allowed
-names_done s (event.Level i c line value) valid allowed = keeps_stirs i c _ s
-names_done s (event.SerialState i c control) valid allowed = keeps_stirs i c _ s
-names_done s (event.Deliver at) valid allowed = keeps_delivers at s
-names_done s (event.Settle most) valid allowed = keeps_settles most s
-names_done s (event.Hold i c) valid allowed = keeps_holds i c s
-names_done s (event.Answer i c place) valid allowed = keeps_answers i c place s
-names_done s (event.Cancel name) valid allowed = keeps_cancels name s
 names_done s (event.Copy x y) valid allowed = names_copied x y s
-names_done s (event.Forget name) valid allowed = refl
-names_done s (event.Tick millis) valid allowed = keeps_ticks millis s
-names_done s (event.Inject i c bytes) valid allowed = keeps_injects i c bytes s
-names_done s (event.Image tag bytes) valid allowed = keeps_on_host _ s
-names_done s (event.Load i c tag) valid allowed = keeps_loads i c tag s
-names_done s event.Show valid allowed = keeps_shows s
+names_done s (event.Forget name) valid allowed = names_freed name s
+names_done s _ valid allowed = search keeping depth 8
 
 pub names_after : (s : State) (e : Event) → IsValid e → refusal s e ≡ None
     → (step s e).state.names ≡ renamed s e

@@ -8,7 +8,7 @@ use Rattle.gb_base.specs.declared.entry.Entry.{Entry}
 use Rattle.gb_base.specs.declared.host_event.HostEvent.{HostEvent}
 use Rattle.gb_base.specs.declared.name.Name.{Name}
 use Rattle.gb_base.specs.declared.outcome.Outcome.{Outcome}
-use Rattle.gb_base.specs.declared.peers.Link.{Link}
+use Rattle.gb_base.specs.declared.interface.Link.{Link}
 use Rattle.gb_base.specs.declared.served.OwnAsk.{OwnAsk}
 use Rattle.gb_base.specs.declared.steps.Purpose.{Purpose}
 use Rattle.gb_formats.specs.Devices.{Stir}
@@ -21,8 +21,8 @@ use Rattle.gb_machine.specs.Bus.{Bus, Connection, Place, Request, next_number, r
 use Rattle.gb_machine.specs.GivingUp.{cancels, gives_up, ticks, times_out}
 use Rattle.gb_machine.specs.Host.{Host, link_at}
 use Rattle.gb_machine.specs.HostActs.{acts, asked_with, drains, fails, follows, host_asks}
-use Rattle.gb_machine.specs.HostActs.{host_follows, host_opens, idles, idles_behind, made_for}
-use Rattle.gb_machine.specs.HostActs.{notices, opened_with, turns, with_awaited}
+use Rattle.gb_machine.specs.HostActs.{host_follows, host_makes, idles, idles_behind, made_for}
+use Rattle.gb_machine.specs.HostActs.{notices, made_with, turns, with_awaited}
 use Rattle.gb_machine.specs.LineActions.{stirred, stirs}
 use Rattle.gb_machine.specs.Loading.{asks_at, asks_next, begins, fails_unasked, goes_on, load_ended}
 use Rattle.gb_machine.specs.Loading.{load_follows, loads}
@@ -165,21 +165,21 @@ keeps_host_asks : (q : Asking) → Keeps (host_asks q)
 unfolding host_asks
 keeps_host_asks q = keeps_by_state _ (λ s. keeps_asked_with _ q)
 
-keeps_opened_with : (o : Option ℕ) (m : Making) (q : Asking) → Keeps (opened_with o m q)
-unfolding opened_with
-keeps_opened_with None m q = keeps_fails _
-keeps_opened_with (Some label) m q =
+keeps_made_with : (o : Option ℕ) (m : Making) (q : Asking) → Keeps (made_with o m q)
+unfolding made_with
+keeps_made_with None m q = keeps_fails _
+keeps_made_with (Some label) m q =
     keeps_by_state _ (λ s. keeps_then _ _
     (keeps_then _ _ (keeps_change _ (λ t. refl)) (keeps_tell _)) (keeps_host_asks q))
 
-keeps_host_opens : (m : Making) (q : Asking) → Keeps (host_opens m q)
-unfolding host_opens
-keeps_host_opens m q = keeps_by_state _ (λ s. keeps_opened_with _ m q)
+keeps_host_makes : (m : Making) (q : Asking) → Keeps (host_makes m q)
+unfolding host_makes
+keeps_host_makes m q = keeps_by_state _ (λ s. keeps_made_with _ m q)
 
 keeps_acts : (a : Act) → Keeps (acts a)
 unfolding acts
 keeps_acts (Act.Ask q) = keeps_host_asks q
-keeps_acts (Act.Open m q) = keeps_host_opens m q
+keeps_acts (Act.Make m q) = keeps_host_makes m q
 keeps_acts (Act.Shut k) = keeps_shuts k
 keeps_acts (Act.Leave k) = keeps_on_bus _
 keeps_acts (Act.Tell e) = keeps_tell e

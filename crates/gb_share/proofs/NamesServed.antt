@@ -8,7 +8,7 @@ use Rattle.gb_base.specs.declared.end.End.TheVariants as end
 use Rattle.gb_base.specs.declared.end.Side.{Side}
 use Rattle.gb_base.specs.declared.end.Side.TheVariants as side
 use Rattle.gb_base.specs.declared.entry.Entry.{Entry}
-use Rattle.gb_base.specs.declared.fault.RawFault.{RawFault}
+use Rattle.gb_base.specs.declared.reasons.RawFault.{RawFault}
 use Rattle.gb_formats.specs.Message.{Message}
 use Rattle.gb_formats.specs.Module.{Module}
 use Rattle.gb_formats.specs.Results.{invalid, nonexistent, success}
@@ -20,7 +20,7 @@ use Rattle.gb_machine.specs.Bus.{Ask, Connection, Item, Raw, RawReply, Reply, is
 use Rattle.gb_machine.specs.Events.{shows}
 use Rattle.gb_machine.specs.HostServing.{HostServed}
 use Rattle.gb_machine.specs.Incoming.{Incoming}
-use Rattle.gb_machine.specs.LineActions.{answers, answers_at, answers_held, holds, injects}
+use Rattle.gb_machine.specs.LineActions.{answers, answers_at, answers_held, injects}
 use Rattle.gb_machine.specs.LineActions.{injects_at, serves_held}
 use Rattle.gb_machine.specs.Modules.{module_at}
 use Rattle.gb_machine.specs.Responding.{Response, creates, destroys, disconnects, far_response}
@@ -212,11 +212,6 @@ unfolding settles
 keeps_settles most = keeps_settles_from most 0
 
 -- ---- lines
-
-pub keeps_holds : (i c : ℕ) → Keeps (holds i c)
-unfolding holds
-keeps_holds i c =
-    keeps_by_state _ (λ s. keeps_given _ _ (λ p. keeps_change _ (λ t. refl)))
 
 pub keeps_answers : (i c place : ℕ) → Keeps (answers i c place)
 unfolding answers answers_at answers_held serves_held

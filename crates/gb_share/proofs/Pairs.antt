@@ -1,14 +1,10 @@
--- Lists of one and of two members.
-use Rattle.std.proofs.Common.{◌≡◌, ℕ, zero, suc, Some, [], ◌∷◌, subst}
+-- A fact of each of three members.
+use Rattle.std.proofs.Common.{◌≡◌, ℕ, suc, zero, Some, [], ◌∷◌, subst}
 use Rattle.std.specs.List.{slice_get}
 
-pub each_of_one : {A : Type 0} (P : ℕ → A → Type 0) (a : A) → P 0 a → (n : ℕ) (x : A)
-    → slice_get (a ∷ []) n ≡ Some x → P n x
-each_of_one P a one zero x at = let same : a ≡ x = cc in subst (P 0) same one
-each_of_one P a one (suc n) x at = absurd cc
-
-pub each_of_two : {A : Type 0} (P : ℕ → A → Type 0) (a b : A) → P 0 a → P 1 b → (n : ℕ) (x : A)
-    → slice_get (a ∷ b ∷ []) n ≡ Some x → P n x
-each_of_two P a b one two zero x at = let same : a ≡ x = cc in subst (P 0) same one
-each_of_two P a b one two (suc zero) x at = let same : b ≡ x = cc in subst (P 1) same two
-each_of_two P a b one two (suc (suc n)) x at = absurd cc
+pub each_of_three : {A : Type 0} (P : ℕ → A → Type 0) (x y z : A) → P 0 x → P 1 y → P 2 z → (n : ℕ)
+    (w : A) → slice_get (x ∷ y ∷ z ∷ []) n ≡ Some w → P n w
+each_of_three P x y z p q r zero w at = subst (P 0) (let same : x ≡ w = cc in same) p
+each_of_three P x y z p q r (suc zero) w at = subst (P 1) (let same : y ≡ w = cc in same) q
+each_of_three P x y z p q r (suc (suc zero)) w at = subst (P 2) (let same : z ≡ w = cc in same) r
+each_of_three P x y z p q r (suc (suc (suc n))) w at = absurd cc

@@ -9,7 +9,8 @@ use Rattle.gb_base.specs.declared.parts.Asked.{Asked}
 use Rattle.gb_formats.specs.Orders.{is_by}
 use Rattle.gb_formats.specs.ValidEvents.{IsValid}
 use Rattle.gb_share.specs.Lines.{AreValid}
-use Rattle.gb_share.specs.Parting.{AreFirst, AreReadyToRun, AreRequesters, lines_by}
+use Rattle.gb_share.specs.Parting.{AreFirst, AreReadyToRun, AreRequesters}
+use Rattle.gb_share.specs.Picks.{lines_by}
 use Rattle.gb_share.specs.Requesters.{AllValid, AreFresh, AreNumbered, parts_for}
 use Rattle.gb_share.specs.declared.requester.Requester.{Requester}
 

@@ -112,8 +112,8 @@ calls_does v by e (Err fault.Busy) w within d = (
       (ap (λ u. u.told) d.rest),
   d.parts,
 )
-calls_does v by e (Err fault.JournalSpent) w within d = tt
-calls_does v by e (Err fault.PassSpent) w within d = tt
+calls_does v by e (Err fault.JournalSpent) w within d = d.taken
+calls_does v by e (Err fault.PassSpent) w within d = absurd d
 calls_does v by e (Err fault.Full) w within d = absurd d
 calls_does v by e (Err (fault.Memory refused)) w within d = tt
 
@@ -143,8 +143,9 @@ asks_does v by e (Err fault.Busy) w within asking d = (
       (ap (λ u. u.told) d.rest),
   d.parts,
 )
-asks_does v by e (Err fault.JournalSpent) w within asking d = tt
-asks_does v by e (Err fault.PassSpent) w within asking d = tt
+asks_does v by e (Err fault.JournalSpent) w within asking d = d.taken
+asks_does v by e (Err fault.PassSpent) w within asking d =
+    ap (λ u. length u.tickets) d.rest ∙ d.spent ∙ sym (ap (λ u. u.parts) d.rest)
 asks_does v by e (Err fault.Full) w within asking d = (
   longer_stays v w (full_longer v w d) within (ap (λ u. u.first) d.rest)
       (ap (λ u. u.told) d.rest),

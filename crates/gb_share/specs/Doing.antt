@@ -6,7 +6,7 @@ use mathlib.Core.List.{IsPrefix}
 use Rattle.gb_base.specs.declared.entry.Entry.{Entry}
 use Rattle.gb_base.specs.declared.event.Event.{Event}
 use Rattle.gb_base.specs.declared.journal.JournalEntry.{JournalEntry}
-use Rattle.gb_desk.specs.Calls.{OfState}
+use Rattle.gb_desk.specs.Calls.{OfState, OfTaken}
 use Rattle.gb_desk.specs.Rules.{all_parts}
 use Rattle.gb_desk.specs.Slots.{requests_in}
 use Rattle.gb_desk.specs.declared.fault.DeskFault.{DeskFault}
@@ -91,11 +91,12 @@ abbrev pub HaveAsked : Option System → List JournalEntry → Type 0
 HaveAsked first es = OfState first es (λ t. HasAsked es)
 
 -- What one event does, by its answer. Where another caller had the turn, the pass hasn't all parts.
--- Only an event that asks a request finds no slot, and then that many requests were asked.
+-- Only an event that asks a request finds no slot, and then that many requests were asked. A
+-- history is spent that is as long as it can get, and a pass with as many tickets as parts.
 abbrev pub DoesAs : View → ℕ → Event → Result (List Entry) DeskFault → View → Type 0
 DoesAs v by e (Ok entries) w = Adds (tagged by (e ∷ [])) v w
 DoesAs v by e (Err fault.Busy) w = Stays v w × (v.parts ≢ all_parts)
 DoesAs v by e (Err fault.Full) w = Stays v w × (asks e ≡ true) × HaveAsked w.first w.seen
-DoesAs v by e (Err fault.JournalSpent) w = ⊤
-DoesAs v by e (Err fault.PassSpent) w = ⊤
+DoesAs v by e (Err fault.JournalSpent) w = OfTaken (λ n. 4294967295 ≤ n) w
+DoesAs v by e (Err fault.PassSpent) w = length w.tickets ≡ w.parts
 DoesAs v by e (Err (fault.Memory refused)) w = ⊤

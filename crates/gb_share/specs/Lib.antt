@@ -9,3 +9,4 @@ pub mod Placing
 pub mod Parting
 pub mod Names
 pub mod Alone
+pub mod Picks

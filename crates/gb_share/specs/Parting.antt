@@ -1,16 +1,12 @@
 -- The lines of a script by their requesters.
 use Rattle.std.specs.Prelude.{◌≡◌, ◌≤◌, ◌<◌, ℕ, List, [], length, Some}
-use Rattle.std.specs.List.{filter, slice_get}
+use Rattle.std.specs.List.{slice_get}
 use Rattle.gb_base.specs.declared.parts.Asked.{Asked}
 use Rattle.gb_desk.specs.Rules.{all_parts}
-use Rattle.gb_formats.specs.Orders.{is_by}
 use Rattle.gb_share.specs.Lines.{AreValid}
+use Rattle.gb_share.specs.Picks.{lines_by}
 use Rattle.gb_share.specs.Requesters.{parts_for}
 use Rattle.gb_share.specs.declared.requester.Requester.{Requester}
-
--- the lines of a requester, in order
-abbrev pub lines_by : ℕ → List Asked → List Asked
-lines_by r asked = filter (is_by r) asked
 
 -- The first requesters of a script, from 0 on, which have run nothing.
 abbrev pub AreFirst : List Asked → List Requester → Type 0

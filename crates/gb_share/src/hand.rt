@@ -13,14 +13,14 @@ ghost use Rattle.gb_share.specs.Names.{FollowsAs, OpensAs, RenamesAs, is_done, p
 ghost use Rattle.gb_share.specs.Names.{with_second, without_name};
 ghost use Rattle.gb_share.specs.Tickets.{AreHeld, with_held};
 
-use gb_base::{Entries, Entry, Event, Journal, Name, OutOfMemory, TryCopy};
-use gb_desk::{Desk, DeskFault, Opened, Pass, Ticket};
+use gb_base::{Entries, Entry, Event, Name, OutOfMemory, TryCopy};
+use gb_desk::{Desk, DeskFault, Journal, Opened, Pass, Ticket};
 use gb_system::System;
 use std::alloc::Global;
 use std::thread;
 
 /// A caller gives way each time behind so many of its lines.
-const LINES_AT_ONCE: usize = 4;
+const LINES_AT_ONCE: usize = 16;
 
 /// A name with a ticket of its request.
 pub struct Held {
@@ -135,8 +135,9 @@ impl Hand {
         ensures opens { OpensAs (knows self.old) self.old.held.items by e.now name.now result
             (knows self.new) self.new.held.items }
     {
-        let Ok(name) = self.named(name) else {
-            return Err(DeskFault::Memory(OutOfMemory));
+        let name = match self.named(name) {
+            Ok(name) => name,
+            Err(refused) => return Err(DeskFault::Memory(refused)),
         };
         match desk.open_request(&mut self.pass, by, e) {
             Ok(opened) => {
@@ -205,8 +206,9 @@ impl Hand {
         ensures copies { RenamesAs (with_second from.now to.now) (knows self.old)
             self.old.held.items by e.now result (knows self.new) self.new.held.items }
     {
-        let Ok(to) = self.named(to) else {
-            return Err(DeskFault::Memory(OutOfMemory));
+        let to = match self.named(to) {
+            Ok(to) => to,
+            Err(refused) => return Err(DeskFault::Memory(refused)),
         };
         let entries = self.call(desk, by, e)?;
         if is_done(&entries) {
@@ -258,7 +260,7 @@ impl Hand {
         }
     }
 
-    /// Lets other callers go first, where there are any, behind each fourth of its lines.
+    /// Lets other callers go first, where there are any, behind each sixteenth of its lines.
     pub fn give_way(&self, lines: usize) {
         if lines % LINES_AT_ONCE == 0 && self.pass.parts() < u32::MAX {
             thread::yield_now();
@@ -309,11 +311,11 @@ impl Hand {
                 glue(desk, &mut self.pass, pass, held);
                 Ok(())
             }
-            Err(_) => {
+            Err(refused) => {
                 other.give_all_back(desk);
                 let Hand { pass, held } = other;
                 glue(desk, &mut self.pass, pass, held);
-                Err(OutOfMemory)
+                Err(OutOfMemory::from(refused))
             }
         }
     }

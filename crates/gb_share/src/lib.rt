@@ -2,10 +2,12 @@
 #![tactic(auto)]
 
 mod hand;
+mod lines;
 mod merging;
 mod parting;
 mod requester;
 mod sharing;
+mod stop;
 #[cfg(test)]
 mod tests;
 mod text;
@@ -14,4 +16,5 @@ mod tries;
 
 pub use requester::Requester;
 pub use sharing::share;
+pub use stop::ShareStop;
 pub use text::shared_text;

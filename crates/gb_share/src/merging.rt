@@ -1,7 +1,7 @@
 //! Puts the lines of requesters into an order, and writes what was told of them.
 
 ghost use Rattle.std.specs.Prelude.{◌≡◌, ◌≢◌, ◌<◌, ◌≤◌, ◌++◌, ◌+◌, ℕ, List, [], ◌∷◌, false, true};
-ghost use Rattle.std.specs.Prelude.{IfOk, MatchOption, OnOk, drop, length, replicate};
+ghost use Rattle.std.specs.Prelude.{IfOk, MatchOption, OnOk, length, replicate};
 ghost use Rattle.std.specs.List.{slice_set};
 ghost use Rattle.std.specs.String.{string_bytes};
 ghost use Rattle.std.specs.Vec.{vec_len};
@@ -9,13 +9,15 @@ ghost use Rattle.gb_base.specs.declared.entry.Entry.TheVariants as entry;
 ghost use Rattle.gb_base.specs.declared.journal.JournalEntry as history;
 ghost use Rattle.gb_base.specs.declared.parts.Asked.{Asked};
 ghost use Rattle.gb_base.specs.declared.refusal.Refusal.TheVariants as why;
+ghost use Rattle.gb_desk.specs.Journals.{past_of};
 ghost use Rattle.gb_formats.specs.ShowTexts.{order_text};
 ghost use Rattle.gb_machine.specs.Shared.{tickets_of};
 ghost use Rattle.gb_machine.specs.State.{State};
 ghost use Rattle.gb_system.specs.Stands as system;
 
 use crate::requester::{Requester, full_told};
-use gb_base::{Entries, JournalEntry, OutOfMemory};
+use gb_base::{Entries, OutOfMemory};
+use gb_desk::{Journal, PastEvent, PastEvents};
 use gb_report::{append_all, append_order};
 use gb_system::System;
 use std::alloc::Global;
@@ -74,7 +76,7 @@ impl Merging {
     {
         let at = *self.at.get(usize::from(who))?;
         let requester = self.all.get(usize::from(who))?;
-        let line = requester.lines.items().get(at)?;
+        let line = requester.lines.get(at)?;
         let full = requester.full.items().get(at)?;
         Some(Next {
             at,
@@ -120,12 +122,13 @@ impl Merging {
     }
 
     // Places a line that was done, the next one of its requester.
-    fn place_done(&mut self, who: u8, next: Next, done: &JournalEntry) -> Result<(), OutOfMemory>
+    fn place_done(&mut self, who: u8, next: Next, done: &PastEvent<'_>) -> Result<(), OutOfMemory>
         requires next { IsNext next self.old who }
         requires full { next.full ≡ false }
         ensures hex { self.new.hex ≡ self.old.hex }
         ensures stands { OnOk result ((asked : List Asked) (entries : List history.JournalEntry)
-            (last : State) → done.now.by ≡ who → Stands asked self.old (done.now ∷ entries) last
+            (last : State) → done.now.by ≡ who
+            → Stands asked self.old (past_of done.now ∷ entries) last
             → Stands asked self.new entries last) }
         ensures others { OnOk result ((r : ℕ) → r ≢ who → left self.new r ≡ left self.old r) }
         ensures order { OnOk result (self.new.order.items
@@ -133,7 +136,7 @@ impl Merging {
         ensures shorter { OnOk result
             (length (left self.new who) < length (left self.old who)) }
     {
-        append_all(done.entries.items(), next.line, self.hex, &mut self.text)?;
+        append_all(done.entries, next.line, self.hex, &mut self.text)?;
         self.place(who, next)?;
         Ok(())
     }
@@ -157,27 +160,24 @@ impl Merging {
         Ok(())
     }
 
-    // Places the lines of requester 0. Its entries come first: the answer is how many these are.
-    fn open(&mut self, journal: &[JournalEntry]) -> Result<usize, OutOfMemory>
+    // Places the lines of requester 0, whose events come first.
+    fn open(&mut self, events: &mut PastEvents<'_>) -> Result<(), OutOfMemory>
         ensures hex { self.new.hex ≡ self.old.hex }
-        ensures bound { IfOk result (λ n. n ≤ length journal.now) }
-        ensures opens { IfOk result (λ n. (asked : List Asked) (last : State)
-            → Begins asked self.old journal.now last
-            → HasOpened asked self.new (drop n journal.now) last) }
+        ensures opens { OnOk result ((asked : List Asked) (last : State)
+            → Begins asked self.old events.old last
+            → HasOpened asked self.new events.new last) }
     {
-        let mut done = 0;
         while let Some(next) = self.next(0) {
             if next.full {
                 self.place_full(0, next)?;
             } else {
-                let Some(entry) = journal.get(done) else {
-                    return Ok(done);
+                let Some(done) = events.next() else {
+                    return Ok(());
                 };
-                self.place_done(0, next, entry)?;
-                done += 1;
+                self.place_done(0, next, &done)?;
             }
         }
-        Ok(done)
+        Ok(())
     }
 
     // Places the full lines that the other requesters have first.
@@ -193,11 +193,11 @@ impl Merging {
         Ok(())
     }
 
-    // Places the line of an entry, and the full lines behind it.
-    fn take(&mut self, done: &JournalEntry) -> Result<(), OutOfMemory>
+    // Places the line of an event, and the full lines behind it.
+    fn take(&mut self, done: &PastEvent<'_>) -> Result<(), OutOfMemory>
         ensures hex { self.new.hex ≡ self.old.hex }
         ensures takes { OnOk result ((asked : List Asked) (entries : List history.JournalEntry)
-            (last : State) → HasLed asked self.old (done.now ∷ entries) last
+            (last : State) → HasLed asked self.old (past_of done.now ∷ entries) last
             → HasLed asked self.new entries last) }
     {
         let Some(next) = self.next(done.by) else {
@@ -211,28 +211,28 @@ impl Merging {
         Ok(())
     }
 
-    // Places the lines of these entries, each with the full lines behind it.
-    fn follow(&mut self, entries: &[JournalEntry]) -> Result<(), OutOfMemory>
+    // Places the lines of these events, each with the full lines behind it.
+    fn follow(&mut self, events: &mut PastEvents<'_>) -> Result<(), OutOfMemory>
         ensures hex { self.new.hex ≡ self.old.hex }
         ensures follows { OnOk result ((asked : List Asked) (last : State)
-            → HasLed asked self.old entries.now last → HasLed asked self.new [] last) }
+            → HasLed asked self.old events.old last → HasLed asked self.new [] last) }
     {
-        for done in entries {
-            self.take(done)?;
+        while let Some(done) = events.next() {
+            self.take(&done)?;
         }
         Ok(())
     }
 
     /// Places all lines as a history and their marks tell.
-    pub fn run(&mut self, journal: &[JournalEntry]) -> Result<(), OutOfMemory>
+    pub fn run(&mut self, journal: &Journal) -> Result<(), OutOfMemory>
         ensures hex { self.new.hex ≡ self.old.hex }
         ensures places { OnOk result ((asked : List Asked) (last : State)
             → Begins asked self.old journal.now last → HasLed asked self.new [] last) }
     {
-        let done = self.open(journal)?;
+        let mut events = journal.events();
+        self.open(&mut events)?;
         self.lead()?;
-        let (_, threads) = journal.split_at(done);
-        self.follow(threads)?;
+        self.follow(&mut events)?;
         Ok(())
     }
 

@@ -1,11 +1,13 @@
 //! Parts the lines of a script by their requesters.
 
 ghost use Rattle.std.specs.Prelude.{◌≡◌, ◌<◌, ◌≤◌, ℕ, [], IfOk, length};
-ghost use Rattle.gb_share.specs.Parting.{AreRequesters, lines_by};
+ghost use Rattle.gb_share.specs.Parting.{AreRequesters};
+ghost use Rattle.gb_share.specs.Picks.{lines_by};
 
 use crate::requester::Requester;
-use gb_base::{Asked, OutOfMemory, Sequence, TryCopy};
+use gb_base::{Asked, OutOfMemory, Sequence};
 use std::alloc::Global;
+use std::sync::Arc;
 
 /// The greatest requester that has lines, 0 where none has.
 fn greatest(asked: &[Asked]) -> u8
@@ -18,39 +20,16 @@ fn greatest(asked: &[Asked]) -> u8
     greatest
 }
 
-/// A copy of a line.
-fn copied(line: &Asked) -> Result<Asked, OutOfMemory>
-    ensures { IfOk result (λ a. a ≡ line.now) }
-{
-    Ok(Asked {
-        line: line.line,
-        who: line.who,
-        event: line.event.copy()?,
-    })
-}
-
-/// The lines of a requester, in order.
-fn own_lines(alloc: Global, asked: &[Asked], who: u8) -> Result<Sequence<Asked>, OutOfMemory>
-    ensures { IfOk result (λ lines. lines ≡ lines_by who asked.now) }
-{
-    let mut lines = Sequence::new(alloc);
-    for line in asked {
-        if line.who == who {
-            lines.push(copied(line)?)?;
-        }
-    }
-    Ok(lines)
-}
-
 /// The requesters of a script with their lines, from 0 to the greatest that has any.
-pub fn requesters(alloc: Global, asked: &[Asked]) -> Result<Vec<Requester>, OutOfMemory>
-    requires few { length asked.now ≤ 1048577 }
-    ensures { IfOk result (λ all. AreRequesters asked.now all.items) }
+pub fn requesters(alloc: Global, asked: Sequence<Asked>) -> Result<Vec<Requester>, OutOfMemory>
+    requires few { length asked ≤ 1048577 }
+    ensures { IfOk result (λ all. AreRequesters asked all.items) }
 {
+    let script = Arc::new(alloc, asked)?;
     let mut all = Vec::new(alloc);
-    for who in 0..u16::from(greatest(asked)) + 1 {
-        let who = who as u8;
-        all.push(Requester::new(alloc, who, own_lines(alloc, asked, who)?))?;
+    for who in 0..u16::from(greatest(script.items())) + 1 {
+        let requester = Requester::new(alloc, &script, who as u8)?;
+        all.push(requester)?;
     }
     Ok(all)
 }

@@ -2,24 +2,29 @@
 
 ghost use Rattle.std.specs.Prelude.{◌≡◌, ◌≢◌, ◌+◌, ◌<◌, ◌≤◌, [], ◌∷◌, ◌++◌, false, true, OnErr};
 ghost use Rattle.std.specs.Prelude.{IfOk, OnOk, Ok, length};
+ghost use Rattle.std.specs.Arc.{arc_value};
 ghost use Rattle.gb_base.specs.declared.entry.Entry.TheVariants as entry;
 ghost use Rattle.gb_base.specs.declared.refusal.Refusal.TheVariants as why;
 ghost use Rattle.gb_desk.specs.Passes.{IsOf};
 ghost use Rattle.gb_desk.specs.Rules.{all_parts};
 ghost use Rattle.gb_share.specs.Lines.{AreAsking, AreValid, MayBeFull};
+ghost use Rattle.gb_share.specs.Picks.{lines_by};
 ghost use Rattle.gb_share.specs.Hands.{knows};
 
 use crate::hand::Hand;
+use crate::lines::Lines;
+use crate::stop::ShareStop;
 use crate::tries::tried;
 use gb_base::{Asked, Entries, Entry, Gate, OutOfMemory, Refusal, Sequence};
 use gb_desk::{Desk, DeskFault};
 use std::alloc::Global;
+use std::sync::Arc;
 
 /// A caller with its lines. Those that were run have a mark each: whether they found no slot.
 #[derive(Drop)]
 pub struct Requester {
     pub(crate) who: u8,
-    pub(crate) lines: Sequence<Asked>,
+    pub(crate) lines: Lines,
     pub(crate) full: Sequence<bool>,
     last: Entries,
     ghost short: { length lines < 4294967295 },
@@ -40,26 +45,31 @@ impl Requester {
     ghost use Rattle.gb_share.specs.Alone.{IsAlone};
     ghost use Rattle.gb_share.specs.Requesters.{Runs};
 
-    /// A requester that has run nothing. It has fewer than 4,294,967,295 lines.
-    pub fn new(alloc: Global, who: u8, lines: Sequence<Asked>) -> Requester
-        requires { length lines < 4294967295 }
-        ensures who { result.who ≡ who }
-        ensures lines { result.lines ≡ lines }
-        ensures full { result.full ≡ [] }
+    /// A requester with its lines of a script, which has run nothing.
+    pub fn new(
+        alloc: Global,
+        script: &Arc<Sequence<Asked>, Global>,
+        who: u8,
+    ) -> Result<Requester, OutOfMemory>
+        requires few { length (arc_value script.now) ≤ 1048577 }
+        ensures who { IfOk result (λ x. x.who ≡ who) }
+        ensures lines { IfOk result (λ x. x.lines ≡ lines_by who (arc_value script.now)) }
+        ensures full { IfOk result (λ x. x.full ≡ []) }
     {
-        Requester {
+        let lines = Lines::of(alloc, script, who)?;
+        Ok(Requester {
             who,
             lines,
             full: Sequence::new(alloc),
             last: Entries::new(alloc),
-        }
+        })
     }
 
     /// How many parts of a pass it needs: one for each ticket that a line can bring, and one more.
     pub fn parts(&self) -> u32
         ensures { result ≡ length self.now.lines + 1 }
     {
-        self.lines.items().len() as u32 + 1
+        self.lines.len() as u32 + 1
     }
 
     // The next line was run: what was told of it, and whether it found no slot.
@@ -76,7 +86,7 @@ impl Requester {
     }
 
     // Tries the next line. The answer is whether it was run.
-    fn next(&mut self, alloc: Global, desk: &Desk, hand: &mut Hand) -> Result<bool, OutOfMemory>
+    fn next(&mut self, alloc: Global, desk: &Desk, hand: &mut Hand) -> Result<bool, ShareStop>
         requires own { IsOf desk.now hand.old.pass }
         requires left { length self.old.full < length self.old.lines }
         requires valid { AreValid self.old.lines }
@@ -90,7 +100,9 @@ impl Requester {
         ensures alone { IsAlone self.old (knows hand.old) hand.old.held.items
             → OnOk result (IsAlone self.new (knows hand.new) hand.new.held.items) }
     {
-        let line = &self.lines.items()[self.full.items().len()];
+        let Some(line) = self.lines.get(self.full.items().len()) else {
+            unreachable!()
+        };
         match tried(hand, desk, self.who, &line.event) {
             Ok(told) => {
                 self.note(told, false)?;
@@ -101,7 +113,9 @@ impl Requester {
                 Ok(true)
             }
             Err(DeskFault::Busy) => Ok(false),
-            Err(_) => Err(OutOfMemory),
+            Err(DeskFault::JournalSpent) => Err(ShareStop::Spent),
+            Err(DeskFault::PassSpent) => Err(ShareStop::Spent),
+            Err(DeskFault::Memory(refused)) => Err(ShareStop::Memory(refused)),
         }
     }
 
@@ -113,7 +127,7 @@ impl Requester {
         desk: &Desk,
         hand: &mut Hand,
         gate: &G,
-    ) -> Result<(), OutOfMemory>
+    ) -> Result<(), ShareStop>
         requires own { IsOf desk.now hand.old.pass }
         requires valid { AreValid self.old.lines }
         ensures own { IsOf desk.now hand.new.pass }
@@ -126,7 +140,7 @@ impl Requester {
         ensures alone { IsAlone self.old (knows hand.old) hand.old.held.items
             → OnOk result (IsAlone self.new (knows hand.new) hand.new.held.items) }
     {
-        while self.full.items().len() < self.lines.items().len() {
+        while self.full.items().len() < self.lines.len() {
             gate.before(self.who, self.turn(), &self.last);
             if !self.next(alloc, desk, hand)? {
                 return Ok(());

@@ -14,9 +14,10 @@ ghost use Rattle.gb_share.specs.Shares.{IsShared};
 
 use crate::hand::Hand;
 use crate::requester::Requester;
+use crate::stop::ShareStop;
 use crate::threads::run_all;
-use gb_base::{FreeGate, Gate, Journal, OutOfMemory};
-use gb_desk::Desk;
+use gb_base::{FreeGate, Gate};
+use gb_desk::{Desk, Journal};
 use gb_system::System;
 use std::alloc::Global;
 use std::thread::Threads;
@@ -27,7 +28,7 @@ fn run_rest(
     desk: &Desk,
     hand: &mut Hand,
     all: &mut [Requester],
-) -> Result<(), OutOfMemory>
+) -> Result<(), ShareStop>
     requires own { IsOf desk.now hand.old.pass }
     requires numbered { AreNumbered all.old }
     requires valid { AllValid all.old }
@@ -54,7 +55,7 @@ fn run_lines<R: Threads + Sync, G: Gate>(
     first: &mut Requester,
     others: &mut [Requester],
     gate: &G,
-) -> Result<(), OutOfMemory>
+) -> Result<(), ShareStop>
     requires own { IsOf desk.now hand.old.pass }
     requires all { (knows hand.old).parts ≡ all_parts }
     requires none { HasNone (knows hand.old) × ((knows hand.old).tickets ≡ []) }
@@ -85,7 +86,7 @@ pub fn share<R: Threads + Sync, G: Gate>(
     first: &mut Requester,
     others: &mut [Requester],
     gate: &G,
-) -> Result<(System, Journal), OutOfMemory>
+) -> Result<(System, Journal), ShareStop>
     requires first { (first.old.who ≡ 0) × (first.old.full ≡ []) }
     requires others { AreNumbered others.old × AreFresh others.old }
     requires valid { AreValid first.old.lines × AllValid others.old }

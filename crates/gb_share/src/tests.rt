@@ -1,10 +1,9 @@
 //! Two requesters that wait for one another at their gates: they run at once.
 
-ghost use Rattle.std.specs.Prelude.{◌≡◌, [], ◌∷◌, length};
-ghost use Rattle.gb_share.specs.Lines.{AreValid};
+ghost use Rattle.std.specs.Prelude.{◌≡◌, [], ◌∷◌, ◌++◌};
 
-use crate::{Requester, share};
-use gb_base::{Asked, Entries, Event, Gate, Journal, Sequence};
+use crate::shared_text;
+use gb_base::{Asked, Entries, Event, Gate, Sequence};
 use std::alloc::Global;
 use std::process::Abort;
 use std::sync::atomic::{AtomicU64, Ordering};
@@ -57,45 +56,40 @@ impl Gate for Meeting {
     }
 }
 
-/// The lines of a requester with one line.
-fn one_line(rt: &impl Abort, alloc: Global, who: u8) -> Sequence<Asked>
-    ensures { result ≡ record { line = 1; who = who; event = Event.Show } ∷ [] }
+/// A line of this requester.
+fn shows(rt: &impl Abort, script: &mut Sequence<Asked>, who: u8)
+    ensures { script.new ≡ script.old ++ record { line = 1; who = who; event = Event.Show } ∷ [] }
 {
-    let mut lines = Sequence::new(alloc);
     let line = Asked {
         line: 1,
         who,
         event: Event::Show,
     };
-    lines.push(line).expect(rt, "memory");
-    lines
+    script.push(line).expect(rt, "memory");
 }
 
-/// A requester with one line.
-fn shows(rt: &impl Abort, alloc: Global, who: u8) -> Requester
-    ensures who { result.who ≡ who }
-    ensures full { result.full ≡ [] }
-    ensures valid { AreValid result.lines }
-    ensures one { length result.lines ≡ 1 }
+/// A line of each of three requesters.
+fn script(rt: &impl Abort, alloc: Global) -> Sequence<Asked>
+    ensures { result ≡ record { line = 1; who = 0; event = Event.Show }
+        ∷ record { line = 1; who = 1; event = Event.Show }
+        ∷ record { line = 1; who = 2; event = Event.Show } ∷ [] }
 {
-    Requester::new(alloc, who, one_line(rt, alloc, who))
+    let mut script = Sequence::new(alloc);
+    shows(rt, &mut script, 0);
+    shows(rt, &mut script, 1);
+    shows(rt, &mut script, 2);
+    script
 }
 
-/// The history of three requesters with a line each, of which two meet.
-fn history<R: Threads + Sync + Abort>(rt: &R, alloc: Global, gate: &Meeting) -> Journal {
-    let mut first = shows(rt, alloc, 0);
-    let mut others = [shows(rt, alloc, 1), shows(rt, alloc, 2)];
-    let (system, journal) = share(rt, alloc, &mut first, &mut others, gate).expect(rt, "memory");
-    drop(system);
-    drop(others);
-    drop(first);
-    journal
+/// What is written of three requesters with a line each, of which two meet.
+fn written<R: Threads + Sync + Abort>(rt: &R, alloc: Global, gate: &Meeting) -> String {
+    shared_text(rt, alloc, script(rt, alloc), false, gate).expect(rt, "memory")
 }
 
 #[test]
 fn requesters_run_at_once(rt: HostRuntime) {
     let gate = Meeting::new();
-    let journal = history(&rt, rt.alloc(), &gate);
+    let text = written(&rt, rt.alloc(), &gate);
     assert_eq!(&rt; gate.met.load(Ordering::SeqCst), 2);
-    assert_eq!(&rt; journal.items().len(), 3);
+    assert!(&rt; text.as_str().starts_with("order 0 "));
 }

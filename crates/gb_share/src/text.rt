@@ -11,7 +11,9 @@ use crate::merging::Merging;
 use crate::parting::requesters;
 use crate::requester::Requester;
 use crate::sharing::share;
-use gb_base::{Asked, Gate, Journal, JournalEntry, OutOfMemory, Sequence};
+use crate::stop::ShareStop;
+use gb_base::{Asked, Gate, OutOfMemory, Sequence};
+use gb_desk::Journal;
 use gb_system::System;
 use std::alloc::Global;
 use std::thread::Threads;
@@ -22,7 +24,7 @@ fn share_all<R: Threads + Sync, G: Gate>(
     alloc: Global,
     all: &mut [Requester],
     gate: &G,
-) -> Result<(System, Journal), OutOfMemory>
+) -> Result<(System, Journal), ShareStop>
     requires { AreReadyToRun all.old }
     ensures same { AreSame all.old all.new }
     ensures shared { IfOk result (λ r. IsShared all.new r.0 r.1) }
@@ -40,7 +42,7 @@ fn told(
     all: Vec<Requester>,
     hex: bool,
     system: &System,
-    journal: &[JournalEntry],
+    journal: &Journal,
 ) -> Result<String, OutOfMemory>
     ensures { IfOk result (λ text.
         Tells hex all.items system.now journal.now (string_bytes text)) }
@@ -62,12 +64,13 @@ pub fn shared_text<R: Threads + Sync, G: Gate>(
     asked: Sequence<Asked>,
     hex: bool,
     gate: &G,
-) -> Result<String, OutOfMemory>
+) -> Result<String, ShareStop>
     requires valid { AreValid asked }
     requires few { length asked ≤ 1048577 }
     ensures { IfOk result (λ text. IsTold hex asked (string_bytes text)) }
 {
-    let mut all = requesters(alloc, asked.items())?;
+    let mut all = requesters(alloc, asked)?;
     let (system, journal) = share_all(rt, alloc, all.as_mut_slice(), gate)?;
-    told(alloc, all, hex, &system, journal.items())
+    let text = told(alloc, all, hex, &system, &journal)?;
+    Ok(text)
 }

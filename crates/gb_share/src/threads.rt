@@ -11,7 +11,8 @@ ghost use Rattle.gb_share.specs.Requesters.{Runs, parts_for};
 
 use crate::hand::Hand;
 use crate::requester::Requester;
-use gb_base::{Gate, OutOfMemory};
+use crate::stop::ShareStop;
+use gb_base::Gate;
 use gb_desk::Desk;
 use std::alloc::Global;
 use std::thread::{Threads, join_mut};
@@ -25,7 +26,7 @@ pub fn run_all<R: Threads + Sync, G: Gate>(
     hand: &mut Hand,
     gate: &G,
     all: &mut [Requester],
-) -> Result<(), OutOfMemory>
+) -> Result<(), ShareStop>
     requires own { IsOf desk.now hand.old.pass }
     requires none { HasNone (knows hand.old) }
     requires fresh { AreFresh all.old }
@@ -44,7 +45,8 @@ pub fn run_all<R: Threads + Sync, G: Gate>(
     let ran = both(rt, alloc, desk, gate, hand, &mut own, last, others);
     let joined = hand.join(desk, own);
     ran?;
-    joined
+    joined?;
+    Ok(())
 }
 
 /// Runs the last requester in a thread of its own, and the others beside it.
@@ -58,7 +60,7 @@ fn both<R: Threads + Sync, G: Gate>(
     own: &mut Hand,
     last: &mut Requester,
     others: &mut [Requester],
-) -> Result<(), OutOfMemory>
+) -> Result<(), ShareStop>
     requires own { IsOf desk.now hand.old.pass × IsOf desk.now own.old.pass }
     requires none { HasNone (knows hand.old) }
     requires fresh { AreFresh others.old }
@@ -75,7 +77,7 @@ fn both<R: Threads + Sync, G: Gate>(
     ensures last { OnOk result (Runs last.old last.new (knows own.old) (knows own.new)) }
     ensures others { OnOk result (HaveRun others.new (knows hand.old) (knows hand.new)) }
 {
-    let mut alone = || -> Result<(), OutOfMemory>
+    let mut alone = || -> Result<(), ShareStop>
         requires { IsSync G.row × IsOf desk.now own.now.pass
             × AreValid last.now.lines }
         ensures { IsOf desk.entry.now own.exit.now.pass
@@ -85,7 +87,7 @@ fn both<R: Threads + Sync, G: Gate>(
             × OnOk result (Runs last.entry.now last.exit.now (knows own.entry.now)
             (knows own.exit.now)) }
     { last.run(alloc, desk, own, gate) };
-    let mut beside = || -> Result<(), OutOfMemory>
+    let mut beside = || -> Result<(), ShareStop>
         requires { IsSync R.row × IsSync G.row × IsOf desk.now hand.now.pass
             × HasNone (knows hand.now) × AreFresh others.now × AreNumbered others.now
             × AllValid others.now

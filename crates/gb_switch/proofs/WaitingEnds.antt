@@ -1,7 +1,7 @@
 -- The ends where an item waits are in order, and what becomes of them when the least is removed.
 use Rattle.std.proofs.Common.{◌≡◌, Bool, true, false, Option, Some, None, IfSome, IfNone, List}
 use Rattle.std.proofs.Common.{[], ◌∷◌}
-use Rattle.std.proofs.Common.{◌||◌, Equal, Less, refl, sym, ap, subst}
+use Rattle.std.proofs.Common.{◌||◌, Equal, Less, refl, sym, ap, ◌∙◌, subst}
 use Rattle.std.proofs.lemmas.Bool.{true≢false}
 use Rattle.std.proofs.lemmas.Cmp.{tied_itself}
 use Rattle.std.specs.List.{AllByRecursion}
@@ -46,6 +46,12 @@ removes-first o r p old new same some none below =
     subst (λ x. Marks (ends_of x old) (ends_of r new) p false) (sym is)
     (subst (λ ends. Marks (p ∷ old) ends p false) (sym (rest-of r old new some none))
     (leaves-others p old (subst (λ x. IsBelow x old) is below)))
+
+-- no end is one of them, so there is none
+pub none-in : (ends : List End) → ((at : End) → is_in ends at ≡ false) → ends ≡ []
+none-in [] none = refl
+none-in (e ∷ ends) none =
+    absurd (true≢false (sym (ap (λ b. b || is_in ends e) (cmp-own e)) ∙ none e))
 
 -- ---- they are in order
 

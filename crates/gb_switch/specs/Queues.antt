@@ -60,9 +60,13 @@ pub record IsFirst {T : Type 0} (queue : End → Option (List T)) (at : End) : T
   pub waits : has_items (queue at) ≡ true
   pub before : (other : End) → end_before other at ≡ true → has_items (queue other) ≡ false
 
+-- nothing waits at any end
+abbrev pub NoneWaits : {T : Type 0} → (End → Option (List T)) → Type 0
+NoneWaits queue = (at : End) → has_items (queue at) ≡ false
+
 -- The first end at which an item waits, None where none waits anywhere.
 abbrev pub FindsFirst : {T : Type 0} → (End → Option (List T)) → Option End → Type 0
-FindsFirst queue None = (at : End) → has_items (queue at) ≡ false
+FindsFirst queue None = NoneWaits queue
 FindsFirst queue (Some at) = IsFirst queue at
 
 -- These are the ends where an item waits, in the order in which queues are settled.

@@ -11,5 +11,5 @@ mod waiting;
 
 pub use ladder::Ladder;
 pub use place::Place;
-pub use queues::Queues;
+pub use queues::{Queues, Unpushed};
 pub use rung::{NotReady, NotRouted, Rung};

@@ -2,6 +2,7 @@
 
 ghost use Rattle.std.specs.Prelude.{
   ◌≡◌,
+  ◌<◌,
   Option,
   Some,
   None,
@@ -10,18 +11,22 @@ ghost use Rattle.std.specs.Prelude.{
   ◌++◌,
   IfErr,
   IfOk,
+  IsOk,
   IsSome,
   OnErr,
   OnOk,
   length,
   option_map,
+  true,
 };
+ghost use Rattle.std.specs.VecDeque.{deque_capacity, deque_len};
 ghost use Rattle.gb_switch.specs.Queues.{
   Appends,
   Creates,
   Destroys,
   FindsFirst,
   ListsWaiting,
+  NoneWaits,
   Puts,
   StaysSame,
   TakesAs,
@@ -36,6 +41,21 @@ use gb_base::{End, OutOfMemory, Sequence};
 use std::alloc::Global;
 use std::collections::{HashMap, VecDeque};
 use std::marker::Model;
+
+/// An item that wasn't added to a queue, for want of memory.
+#[derive(Debug, Drop)]
+pub struct Unpushed<T> {
+    /// The item.
+    pub item: T,
+    /// What was refused.
+    pub refused: OutOfMemory,
+}
+
+impl<T: Drop> From<Unpushed<T>> for OutOfMemory {
+    fn from(unpushed: Unpushed<T>) -> OutOfMemory {
+        unpushed.refused
+    }
+}
 
 /// One list of items for each end that has a queue.
 #[derive(Drop)]
@@ -84,9 +104,9 @@ impl<T: Drop> Queues<T> {
         self.queues.insert(one, VecDeque::new(self.alloc))?;
         match self.queues.insert(other, VecDeque::new(self.alloc)) {
             Ok(_) => Ok(()),
-            Err(_) => {
+            Err(refused) => {
                 self.queues.remove(&one);
-                Err(OutOfMemory)
+                Err(OutOfMemory::from(refused))
             }
         }
     }
@@ -110,10 +130,10 @@ impl<T: Drop> Queues<T> {
 
     /// Adds an item at the end of an end's queue, which is there. For want of memory the item is
     /// handed back, and all is as before.
-    pub fn push(&mut self, at: End, item: T) -> Result<(), T>
+    pub fn push(&mut self, at: End, item: T) -> Result<(), Unpushed<T>>
         requires { IsSome (items_at self.old at) }
         ensures pushed { OnOk result (Appends (items_at self.old) (items_at self.new) at item) }
-        ensures back { IfErr result (λ x. x ≡ item) }
+        ensures back { IfErr result (λ unpushed. unpushed.item ≡ item) }
         ensures unchanged { OnErr result (StaysSame self.old self.new) }
     {
         let place = Place::of(at);
@@ -152,9 +172,11 @@ impl<T: Drop> Queues<T> {
         Some(place.end())
     }
 
-    /// The ends where an item waits, in the order in which queues are settled.
+    /// The ends where an item waits, in the order in which queues are settled. It takes no memory
+    /// where none waits.
     pub fn waiting(&self) -> Result<Sequence<End>, OutOfMemory>
-        ensures { IfOk result (λ ends. ListsWaiting (items_at self.now) ends) }
+        ensures lists { IfOk result (λ ends. ListsWaiting (items_at self.now) ends) }
+        ensures few { NoneWaits (items_at self.now) → IsOk result }
     {
         let ends = self.waiting.ends(self.alloc)?;
         Ok(ends)
@@ -168,23 +190,36 @@ fn append<T: Drop>(
     waiting: &mut Waiting,
     place: Place,
     item: T,
-) -> Result<(), T>
+) -> Result<(), Unpushed<T>>
     requires { is_in waiting.old place ≡ has_items (Some queue.old.items) }
     ensures pushed { OnOk result (queue.new.items ≡ queue.old.items ++ item ∷ []) }
-    ensures back { IfErr result (λ x. x ≡ item) }
+    ensures back { IfErr result (λ unpushed. unpushed.item ≡ item) }
     ensures unchanged { OnErr result (queue.new.items ≡ queue.old.items) }
     ensures marked { Marks waiting.old waiting.new place (has_items (Some queue.new.items)) }
 {
-    if queue.is_empty() && waiting.add(place).is_err() {
-        return Err(item);
+    if let Err(refused) = make_room(queue, waiting, place) {
+        return Err(Unpushed { item, refused });
     }
-    match queue.push_back(item) {
-        Ok(()) => Ok(()),
-        Err(refused) => {
-            if queue.is_empty() {
-                waiting.remove(place);
-            }
-            Err(refused.value)
-        }
+    queue.push_back_reserved(item);
+    Ok(())
+}
+
+/// The queue at a place has room for one more item, and its place is marked. After want of memory
+/// all is as before.
+fn make_room<T: Drop>(
+    queue: &mut VecDeque<T>,
+    waiting: &mut Waiting,
+    place: Place,
+) -> Result<(), OutOfMemory>
+    requires { is_in waiting.old place ≡ has_items (Some queue.old.items) }
+    ensures items { queue.new.items ≡ queue.old.items }
+    ensures room { OnOk result (deque_len queue.new < deque_capacity queue.new) }
+    ensures marked { OnOk result (Marks waiting.old waiting.new place true) }
+    ensures unchanged { OnErr result (waiting.new ≡ waiting.old) }
+{
+    queue.reserve(1)?;
+    if queue.is_empty() {
+        waiting.add(place)?;
     }
+    Ok(())
 }

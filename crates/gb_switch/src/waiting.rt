@@ -1,6 +1,6 @@
 //! The ends where an item waits.
 
-ghost use Rattle.std.specs.Prelude.{◌≡◌, true, false, [], IfOk, OnErr, OnOk};
+ghost use Rattle.std.specs.Prelude.{◌≡◌, true, false, [], IfOk, IsOk, OnErr, OnOk};
 ghost use Rattle.std.specs.List.Sorted.{IsStrictlySortedBy};
 ghost use Rattle.gb_switch.specs.Places.{end_cmp};
 ghost use Rattle.gb_switch.specs.WaitingEnds.{IsLeast, Marks, is_in};
@@ -81,10 +81,11 @@ impl Waiting {
         self.first
     }
 
-    /// The ends in order.
+    /// The ends in order. It takes no memory where there is none.
     pub fn ends(&self, alloc: Global) -> Result<Sequence<End>, OutOfMemory>
         ensures ends { IfOk result (λ ends. ends ≡ self.now) }
         ensures sorted { IfOk result (λ ends. IsStrictlySortedBy end_cmp ends) }
+        ensures few { self.now ≡ [] → IsOk result }
     {
         let mut ends = Sequence::new(alloc);
         if let Some(first) = self.first {

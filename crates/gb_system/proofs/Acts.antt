@@ -6,7 +6,7 @@ use Rattle.gb_base.specs.declared.end.Side.TheVariants as side
 use Rattle.gb_base.specs.declared.entry.ConnState.TheVariants as state
 use Rattle.gb_base.specs.declared.entry.Entry.{Entry}
 use Rattle.gb_base.specs.declared.entry.Entry.TheVariants as entry
-use Rattle.gb_base.specs.declared.peers.Link.{Link}
+use Rattle.gb_base.specs.declared.interface.Link.{Link}
 use Rattle.gb_base.specs.declared.steps.Purpose.{Purpose}
 use Rattle.gb_bus.specs.Sending.{label_on}
 use Rattle.gb_bus.specs.Stands as bus

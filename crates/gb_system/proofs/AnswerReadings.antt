@@ -1,19 +1,19 @@
 -- What an answer says is read by the protocol of its connection, as the application processor reads
 -- it by what it knows of that.
-use Rattle.std.proofs.Common.{◌≡◌, ℕ, Option, Some, None, List, [], sym, ap}
-use Rattle.gb_base.specs.declared.peers.Link.{Link}
+use Rattle.std.proofs.Common.{◌≡◌, ℕ, Option, Some, None, List, sym, ap}
+use Rattle.gb_base.specs.declared.interface.Link.{Link}
 use Rattle.gb_formats.specs.Bridges.{reading_of}
 use Rattle.gb_host.specs.Bridging.{reading_on}
-use Rattle.gb_laws.proofs.links.LinkBuses.{Linked}
-use Rattle.gb_laws.proofs.links.Reading.{IsReadBy, read-by}
-use Rattle.gb_machine.specs.Bus.{Bus, Connection}
-use Rattle.gb_machine.specs.Host.{Host, link_of}
-use Rattle.gb_machine.specs.Members.{IsIn}
+use Rattle.gb_laws.proofs.runs.Reached.{reached-read}
+use Rattle.gb_laws.specs.Readings.{IsReadBy}
+use Rattle.gb_machine.specs.Bus.{Connection}
+use Rattle.gb_machine.specs.Host.{link_of}
+use Rattle.gb_machine.specs.{Members.IsIn, Reached.OfARun, State.State}
 
-pub reads-as : {b : Bus} {h : Host} (c : Connection) (kind : ℕ) (payload : List ℕ)
-    → Linked b h [] → IsIn c b.connections
-    → reading_on (link_of c.number h) kind payload ≡ reading_of c.protocol kind payload
-reads-as {b} {h} c kind payload f live = by (link_of c.number h) (read-by c f live)
+pub reads-as : (s : State) (c : Connection) (kind : ℕ) (payload : List ℕ) → OfARun s
+    → IsIn c s.bus.connections
+    → reading_on (link_of c.number s.host) kind payload ≡ reading_of c.protocol kind payload
+reads-as s c kind payload run live = by (link_of c.number s.host) (reached-read s c run live)
   where
     by : (o : Option Link) → IsReadBy o c.protocol
         → reading_on o kind payload ≡ reading_of c.protocol kind payload

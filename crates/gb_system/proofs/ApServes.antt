@@ -7,7 +7,7 @@ use Rattle.gb_base.specs.declared.end.Side.TheVariants as side
 use Rattle.gb_base.specs.declared.entry.Entry.{Entry}
 use Rattle.gb_base.specs.declared.entry.Entry.TheVariants as entry
 use Rattle.gb_base.specs.declared.host_event.HostEvent.{HostEvent}
-use Rattle.gb_base.specs.declared.peers.Link.{Link}
+use Rattle.gb_base.specs.declared.interface.Link.{Link}
 use Rattle.gb_bus.specs.Delivering.{MayReply, taken_from}
 use Rattle.gb_bus.specs.declared.answers.Asked.{Asked}
 use Rattle.gb_formats.specs.GpioRecords.{GpioAsk, read_gpio_ask_of_module}
@@ -42,7 +42,7 @@ use Rattle.gb_system.proofs.Heard.{may-reply, request-sound}
 use Rattle.gb_system.proofs.ImageFits.{images_lent}
 use Rattle.gb_system.proofs.Replies.{responds-twoway}
 use Rattle.gb_system.proofs.Standing.{let-gone, rehosted}
-use Rattle.gb_system.specs.Acting.{MayTurn}
+use Rattle.gb_laws.specs.Possible.{MayTurn}
 use Rattle.gb_system.specs.Doing.{Does}
 use Rattle.gb_system.specs.Drafts.{IsUpon}
 use Rattle.gb_system.specs.Serving.{IsDelivered, MayNotice, MayServe, only, told_of}
@@ -51,8 +51,8 @@ use Rattle.gb_system.specs.declared.parties.Parties.{Parties}
 
 -- ---- what is refused changes nothing
 
--- The application processor is as before where the answer isn't success, and the answer fits into a
--- message.
+-- The application processor is as before where the answer isn't success, and the answer fits into
+-- a message.
 record IsFair (h : Host) (r : HostServed) : Type 0 where
   keeps : (r.answer.result == success) ≡ false → r.host ≡ h
   fits : length r.answer.payload ≤ most_payload

@@ -5,12 +5,13 @@ use Rattle.std.proofs.Common.{subst}
 use Rattle.gb_base.specs.declared.bridge.Reading.{Reading}
 use Rattle.gb_base.specs.declared.bridge.Reading.TheVariants as reading
 use Rattle.gb_base.specs.declared.end.End.{End}
+use Rattle.gb_base.specs.declared.end.End.TheVariants as end
 use Rattle.gb_base.specs.declared.end.Side.{Side}
 use Rattle.gb_base.specs.declared.end.Side.TheVariants as side
 use Rattle.gb_base.specs.declared.entry.Entry.{Entry}
 use Rattle.gb_base.specs.declared.entry.Entry.TheVariants as entry
 use Rattle.gb_base.specs.declared.event.Event.TheVariants as event
-use Rattle.gb_base.specs.declared.fault.RawFault.{RawFault}
+use Rattle.gb_base.specs.declared.reasons.RawFault.{RawFault}
 use Rattle.gb_base.specs.declared.outcome.Outcome.{Outcome}
 use Rattle.gb_base.specs.declared.outcome.Outcome.TheVariants as outcome
 use Rattle.gb_base.specs.declared.refusal.Refusal.TheVariants as why
@@ -20,15 +21,12 @@ use Rattle.gb_bus.specs.Delivering.{DeliversNowhere}
 use Rattle.gb_bus.specs.Stands as bus
 use Rattle.gb_bus.specs.declared.bus.Bus.{Bus}
 use Rattle.gb_invariants.proofs.Numbers.{found-by_number}
-use Rattle.gb_laws.proofs.links.LinkBuses.{Linked}
-use Rattle.gb_laws.proofs.links.Links.{IsKnown, leaving, linked, supervisory}
 use Rattle.gb_invariants.proofs.Awaiting.{is_of-is, same-some}
 use Rattle.gb_invariants.proofs.Drawing.{open_with-in_use}
 use Rattle.gb_invariants.proofs.ItemChanges.{first-in}
 use Rattle.gb_invariants.proofs.Outcomes.{both-true}
-use Rattle.gb_laws.proofs.runs.Noticing.{knows-over, knows-popped, knows-reached}
-use Rattle.gb_laws.proofs.points.Places.{place-is}
-use Rattle.gb_laws.proofs.runs.Reached.{reached-linked}
+use Rattle.gb_invariants.proofs.Places.{place-is}
+use Rattle.gb_laws.proofs.runs.Reached.{reached-ended, reached-far}
 use Rattle.gb_machine.proofs.Opened.{machine_opened}
 use Rattle.gb_machine.proofs.Steps.{deliver-allowed, delivers-by_number, delivers-drops}
 use Rattle.gb_machine.proofs.Steps.{delivers-late, with_bus}
@@ -46,8 +44,8 @@ use Rattle.gb_machine.specs.Refusals.{has_nothing, is_end_unplugged, refusal}
 use Rattle.gb_machine.specs.State.{State}
 use Rattle.gb_formats.specs.Bridges.{reading_of}
 use Rattle.gb_machine.specs.Requests.{is_of}
-use Rattle.gb_system.proofs.Turning.{may-follow}
-use Rattle.gb_system.specs.Ending.{IsOver, MayFollow}
+use Rattle.gb_system.specs.Ending.{IsOver}
+use Rattle.gb_laws.specs.Possible.{MayFollow}
 use Rattle.gb_system.specs.declared.ending.Over.{Over}
 use Rattle.gb_host.specs.Bridging.{reading_on}
 use Rattle.gb_machine.specs.Host.{Host, link_of}
@@ -72,14 +70,10 @@ pub record IsThere (s : State) (at : End) (p : Place) : Type 0 where
   pub found : connection_of p.connection.number s.bus ≡ Some p.connection
 
 -- far ends are the supervisory controller and modules
-far-side : (c : Connection) (s : State) → Linked s.bus s.host [] → IsIn c s.bus.connections
-    → side_of c.peer ≡ side.Far
-far-side c s f live = by (f.known c live)
-  where
-    by : IsKnown c s.host.links [] → side_of c.peer ≡ side.Far
-    by (supervisory one) = ap side_of (f.svc c live one).peer
-    by (linked l i of) = ap side_of of.peer
-    by (leaving i) = absurd i
+far-side : (at : End) → ((a : ℕ) → at ≡ end.Ap a → ⊥) → side_of at ≡ side.Far
+far-side (end.Ap a) other = absurd (other a refl)
+far-side end.Svc other = refl
+far-side (end.Module i c) other = refl
 
 pub is-there : (x : Parties) (s : State) (at : End) (p : Place) → PartiesStand x s
     → place_of at s.bus.connections ≡ Some p → IsThere s at p
@@ -95,7 +89,7 @@ is-there x s at p st named =
   where
     by : (t : Side) → IsIn p.connection s.bus.connections → side_of (end_of t p.connection) ≡ t
     by side.Ap live = refl
-    by side.Far live = far-side p.connection s (reached-linked s st.run) live
+    by side.Far live = far-side p.connection.peer (reached-far s p.connection st.run live)
 
 -- ---- nothing is delivered
 
@@ -221,8 +215,7 @@ module _ (x : Parties) (s : State) (st : PartiesStand x s) (at : End)
       let how = answered h.code h.bytes in
       let t = with_bus (ended n how (popped p.connection.number p.side s.bus)) s in
       let stand = rebussed [] y t.bus st.parts h.stands refl in
-      let may : MayFollow n how t = may-follow n how t
-      (knows-over n how (knows-popped p.connection.number p.side (knows-reached s st.run))) in
+      let may : MayFollow n how t = reached-ended s n how p.connection.number p.side st.run in
       let is : IsOver over t = record {
         request = h.request;
         made = h.made;
@@ -370,6 +363,5 @@ reads-on {x} s t at p k st named number same = record {
   reads = λ kind payload.
       ap (λ (h : Host). reading_on (link_of k h) kind payload) same
       ∙ ap (λ j. reading_on (link_of j s.host) kind payload) number
-      ∙ reads-as p.connection kind payload (reached-linked s st.run)
-      (is-there x s at p st named).live;
+      ∙ reads-as s p.connection kind payload st.run (is-there x s at p st named).live;
 }

@@ -11,11 +11,11 @@ use Rattle.gb_bus.specs.Delivering.{ArrivesAsk}
 use Rattle.gb_bus.specs.Wiring.{ends_of}
 use Rattle.gb_bus.specs.declared.answers.Asked.{Asked}
 use Rattle.gb_bus.specs.declared.bus.Bus.{Bus}
-use Rattle.gb_base.specs.declared.fault.RawFault.{RawFault}
+use Rattle.gb_base.specs.declared.reasons.RawFault.{RawFault}
 use Rattle.gb_formats.specs.Message.{Message}
 use Rattle.gb_formats.specs.Wire.{raw_message}
 use Rattle.gb_invariants.proofs.Awaiting.{same-some}
-use Rattle.gb_laws.proofs.opened.FarItems.{far-numbered}
+use Rattle.gb_laws.proofs.runs.Reached.{reached-front, reached-noted}
 use Rattle.gb_invariants.proofs.Found.{find-changed}
 use Rattle.gb_machine.proofs.Opened.{machine_opened}
 use Rattle.gb_machine.proofs.Steps.{delivers-arrives}
@@ -31,7 +31,6 @@ use Rattle.gb_machine.specs.Refusals.{is_end_unplugged}
 use Rattle.gb_machine.specs.State.{State}
 use Rattle.gb_machine.specs.HostServing.{HostServed, host_serves}
 use Rattle.gb_machine.specs.Reached.{OfARun}
-use Rattle.gb_system.proofs.Turning.{may-note}
 use Rattle.gb_system.proofs.Doings.{does-as}
 use Rattle.gb_system.proofs.Standing.{rebussed}
 use Rattle.gb_system.specs.Doing.{IsDone}
@@ -80,7 +79,7 @@ may-serve s at p item q run named front is = by p.side refl
         → MayNotice o (after_serving p.connection q served (taken_state s p))
     noticed None at_ap e = tt
     noticed (Some e) at_ap notices =
-        may-note s at p item q e (after_serving p.connection q served (taken_state s p)) run
+        reached-noted s at p item q e (after_serving p.connection q served (taken_state s p)) run
         (record { named = named; side = at_ap; front = front; made = is; notices = notices })
 
     by : (t : Side) → p.side ≡ t → MayServe t p.connection q (taken_state s p)
@@ -148,7 +147,7 @@ ask-here {x} {z} {a} {b} s at y p k item asked payload bytes st there named fron
       payload_is = same ∙ h.payload_is;
       upon = subst (λ j. IsUpon j t.bus c) (sym number) (upon-taken s p w.found);
       there = ap (λ d. end_of d c) w.side ∙ w.is;
-      numbered = λ far. far-numbered s c item q st.run w.live
+      numbered = λ far. reached-front s c item q st.run w.live
           (ap (λ d. first (queue d c)) (sym far ∙ w.side) ∙ front) h.is;
     } in
     let done = serve t c item delivered

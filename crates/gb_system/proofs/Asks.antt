@@ -30,7 +30,7 @@ use Rattle.gb_machine.specs.Sending.{Draft, draft, is_lost, is_wired, label_for,
 use Rattle.gb_machine.specs.State.{State}
 use Rattle.gb_system.proofs.Doings.{does-given, does-given_none, does-is, does-unless, does-when}
 use Rattle.gb_system.proofs.Standing.{each_more, held-stand-more, requested-more}
-use Rattle.gb_system.specs.Acting.{IsAskable}
+use Rattle.gb_laws.specs.Possible.{IsAskable}
 use Rattle.gb_system.specs.Doing.{Does}
 use Rattle.gb_system.specs.Drafts.{ask_told, end_at, own_ask}
 use Rattle.gb_system.specs.Stands.{AreSound, IsSound, PartsStand, around_bus}
@@ -82,6 +82,11 @@ ask-unlabelled {x} {s} {a} d st none =
         does-given (on_connection d s) c e
         (does-given_none (λ label. asks_with d c label) h st) in
         record { told_is = k.told_is; stand = k.stand }
+
+-- no identifier is drawn where the connection isn't live
+pub unlabelled-gone : (d : Draft) (b : machine.Bus) → connection_of d.connection b ≡ None
+    → label_on d b ≡ None
+unlabelled-gone d b gone = ap (option_and_then (λ c. label_for d b)) gone
 
 -- ---- a request is made
 

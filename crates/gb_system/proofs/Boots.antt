@@ -2,28 +2,24 @@
 use Rattle.std.proofs.Common.{◌≡◌, ◌≤◌, ◌<◌, ◌+◌, ℕ, zero, suc, Bool, true, false, Option, Some}
 use Rattle.std.proofs.Common.{None, List, [], ◌∷◌, length, slice_get, drop, add-one, refl, sym, ap}
 use Rattle.std.proofs.Common.{◌∙◌, subst, arith, if◌then◌else◌, option_and_then, drop_of_length-le}
-use Rattle.gb_base.specs.declared.end.Side.TheVariants as side
 use Rattle.gb_base.specs.declared.entry.Entry.{Entry}
 use Rattle.gb_base.specs.declared.event.Event.TheVariants as event
 use Rattle.gb_base.specs.declared.refusal.Refusal.TheVariants as why
 use Rattle.gb_base.specs.declared.served.OwnAsk.{OwnAsk}
-use Rattle.gb_formats.specs.Grammar.{default_timeout}
 use Rattle.gb_formats.specs.SvcRecords.{SvcAsk}
 use Rattle.gb_invariants.proofs.Awaiting.{same-some}
 use Rattle.gb_machine.proofs.Opened.{machine_opened}
-use Rattle.gb_machine.specs.Actions.{Action, change, each, given, tell, when, ◌▸◌, nothing}
-use Rattle.gb_machine.specs.Asking.{asks, asks_with}
-use Rattle.gb_machine.specs.Bus.{Connection, connection_of}
+use Rattle.gb_machine.proofs.Steps.{far_asks-beside}
+use Rattle.gb_machine.specs.Actions.{Action, Told, change, each, ◌▸◌, nothing}
 use Rattle.gb_machine.specs.Lists.{first_met}
 use Rattle.gb_machine.specs.Modules.{is_primary}
 use Rattle.gb_machine.specs.OwnAsking.{far_asks, svc_asks, svc_own}
 use Rattle.gb_machine.specs.Plugging.{tells_inserted}
-use Rattle.gb_machine.specs.Sending.{Draft, draft, is_wired, label_for}
 use Rattle.gb_machine.specs.State.{Plugged, State}
 use Rattle.gb_system.proofs.Doings.{does-by_state, does-change, does-then}
 use Rattle.gb_system.proofs.Midways.{Midway, each-cons, each-nil, midway-as, midway-end}
 use Rattle.gb_system.proofs.Midways.{midway-more}
-use Rattle.gb_system.specs.Acting.{IsAskable}
+use Rattle.gb_laws.specs.Possible.{IsAskable}
 use Rattle.gb_system.specs.Doing.{Does, IsDone, IsRefused}
 use Rattle.gb_system.specs.Drafts.{own_ask}
 use Rattle.gb_system.specs.Plugging.{span_of, told_span}
@@ -34,32 +30,10 @@ use Rattle.std.specs.List.{filter}
 
 -- ---- modules are no matter of requests
 
-when-modules : (t : Bool) (e : Entry) (s : State) → (when t (tell e) s).state.modules ≡ s.modules
-unfolding machine_opened
-when-modules true e s = refl
-when-modules false e s = refl
-
-asks-modules : (d : Draft) (s : State) → (asks d s).state.modules ≡ s.modules
-unfolding machine_opened
-asks-modules d s = by (connection_of d.connection s.bus) (label_for d s.bus)
-  where
-    by : (o : Option Connection) (p : Option ℕ)
-        → (given o (λ c. given p (λ l. asks_with d c l)) s).state.modules ≡ s.modules
-    by None p = refl
-    by (Some c) None = refl
-    by (Some c) (Some l) = when-modules d.oneway _ _
-
 far_asks-modules : (k : ℕ) (own : OwnAsk) (s : State)
     → (far_asks k own s).state.modules ≡ s.modules
-unfolding machine_opened
-far_asks-modules k own s = by (is_wired (connection_of k s.bus))
-  where
-    d : Draft
-    d = draft k side.Far own.kind own.payload (s.now + default_timeout) own.oneway
-
-    by : (t : Bool) → (when t (asks d) s).state.modules ≡ s.modules
-    by true = asks-modules d s
-    by false = refl
+far_asks-modules k own s =
+    ap (λ (t : Told). t.state.modules) (far_asks-beside k own s.modules s.loads s.past s)
 
 -- ---- the start
 

@@ -12,13 +12,13 @@ use Rattle.gb_base.specs.declared.end.Side.TheVariants as side
 use Rattle.gb_base.specs.declared.entry.Entry.{Entry}
 use Rattle.gb_base.specs.declared.event.Event.TheVariants as event
 use Rattle.gb_base.specs.declared.name.Name.{Name}
-use Rattle.gb_base.specs.declared.peers.Link.{Link}
+use Rattle.gb_base.specs.declared.interface.Link.{Link}
 use Rattle.gb_bridge_payload.specs.Serving.{WritesBridged}
 use Rattle.gb_formats.specs.Bridges.{Request, ask_request, asks_too_much, bridge_answer}
 use Rattle.gb_formats.specs.Results.{most_payload}
 use Rattle.gb_host.specs.Stands as host
 use Rattle.gb_host.specs.declared.host.Host as code
-use Rattle.gb_laws.proofs.credits.CreditsLines.{answered-by}
+use Rattle.gb_machine.proofs.BridgeAnswers.{answered-by}
 use Rattle.gb_machine.proofs.Conditions.{unmet}
 use Rattle.gb_machine.proofs.Opened.{machine_opened}
 use Rattle.gb_machine.proofs.Options.{none-of}
@@ -34,7 +34,7 @@ use Rattle.gb_machine.specs.State.{State}
 use Rattle.gb_system.proofs.Bridgings.{IsLink, is-link, line-met}
 use Rattle.gb_system.proofs.Doings.{does-by_state, does-given, does-on_host, does-then}
 use Rattle.gb_system.proofs.Standing.{rehosted}
-use Rattle.gb_system.specs.Acting.{IsAskable}
+use Rattle.gb_laws.specs.Possible.{IsAskable}
 use Rattle.gb_system.specs.Bridging.{BridgesTo}
 use Rattle.gb_system.specs.Doing.{Does, IsDone}
 use Rattle.gb_system.specs.Stands.{PartiesStand, PartsStand}

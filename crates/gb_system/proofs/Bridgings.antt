@@ -6,14 +6,13 @@ use Rattle.gb_base.specs.declared.bridge.BridgeAsk.{BridgeAsk}
 use Rattle.gb_base.specs.declared.bridge.Bridged.{Bridged}
 use Rattle.gb_base.specs.declared.end.Side.TheVariants as side
 use Rattle.gb_base.specs.declared.name.Name.{Name}
-use Rattle.gb_base.specs.declared.peers.Link.{Link}
+use Rattle.gb_base.specs.declared.interface.Link.{Link}
 use Rattle.gb_base.specs.declared.refusal.Refusal.{Refusal}
 use Rattle.gb_base.specs.declared.refusal.Refusal.TheVariants as why
 use Rattle.gb_host.specs.Bridging.{BridgesOn}
 use Rattle.gb_host.specs.Refusing.{SendsAs}
 use Rattle.gb_invariants.proofs.Lists.{found-in}
-use Rattle.gb_laws.proofs.links.LinkLists.{found-link}
-use Rattle.gb_laws.proofs.runs.Reached.{reached-linked}
+use Rattle.gb_laws.proofs.runs.Reached.{reached-link}
 use Rattle.gb_machine.proofs.Conditions.{front-unmet, unmet, unrefused}
 use Rattle.gb_machine.specs.Host.{Host, is_link, link_at, link_of}
 use Rattle.gb_machine.specs.HostRefusals.{bridge_conditions, send_conditions}
@@ -63,8 +62,7 @@ is-link s x i c k st way = by (link_at i c s.host) refl way
           there = there;
           number = number;
           of_number = ap (λ n. link_of n s.host) (sym number)
-              ∙ found-link s.host.links l (reached-linked s st.run).host.links.rise
-              (found-in (is_link i c) s.host.links l there).0;
+              ∙ reached-link s l st.run (found-in (is_link i c) s.host.links l there).0;
         }
 
 -- ---- refusals

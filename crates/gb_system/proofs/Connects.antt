@@ -6,14 +6,15 @@ use Rattle.gb_base.specs.declared.entry.ConnState.TheVariants as state
 use Rattle.gb_base.specs.declared.entry.Entry.{Entry}
 use Rattle.gb_base.specs.declared.event.Event.TheVariants as event
 use Rattle.gb_base.specs.declared.host_event.HostEvent.TheVariants as host_event
-use Rattle.gb_base.specs.declared.peers.Link.{Link}
+use Rattle.gb_base.specs.declared.interface.Link.{Link}
 use Rattle.gb_base.specs.declared.refusal.Refusal.{Refusal}
 use Rattle.gb_base.specs.declared.refusal.Refusal.TheVariants as why
 use Rattle.gb_formats.specs.ValidEvents.{IsValid}
 use Rattle.gb_machine.proofs.Opened.{machine_opened}
 use Rattle.gb_invariants.proofs.Awaiting.{same-some}
 use Rattle.gb_invariants.proofs.Found.{find-changed}
-use Rattle.gb_laws.proofs.runs.Noticing.{knows-drains, knows-reached}
+use Rattle.gb_laws.proofs.runs.Reached.{reached-connects, reached-disconnects, reached-drained}
+use Rattle.gb_laws.proofs.runs.Reached.{reached-drains}
 use Rattle.gb_machine.specs.Actions.{given}
 use Rattle.gb_machine.specs.Host.{control_of, in_state, is_link, link_at, with_link}
 use Rattle.gb_machine.specs.HostActs.{idles, notices, turns}
@@ -26,10 +27,9 @@ use Rattle.gb_machine.specs.Sequences.{link_turn}
 use Rattle.gb_machine.specs.State.{State}
 use Rattle.gb_system.proofs.Doings.{does-by_state, does-given, does-then}
 use Rattle.gb_system.proofs.Ways.{met-early, met-late}
-use Rattle.gb_system.proofs.Turning.{may-connect, may-disconnect, may-drain, may-idle}
-use Rattle.gb_system.specs.Acting.{MayTurn}
+use Rattle.gb_laws.specs.Possible.{MayTurn}
 use Rattle.gb_system.specs.Doing.{Does, IsDone, IsRefused}
-use Rattle.gb_system.specs.Ending.{MayIdle}
+use Rattle.gb_laws.specs.Possible.{MayIdle}
 use Rattle.gb_system.specs.Stands.{PartiesStand, PartsStand}
 use Rattle.gb_system.specs.declared.parties.Parties.{Parties}
 
@@ -79,7 +79,7 @@ connect-done x y s i c spent before es valid st free by so noticed =
     let allowed : refusal s (event.Connect i c) ≡ None =
     connect-last s i c spent free by ∙ ap (λ b. first_met ((b, why.NoLabel) ∷ [])) so in record {
       allowed = allowed;
-      done = noticed s st.parts (may-connect s i c st.run allowed valid);
+      done = noticed s st.parts (reached-connects s i c st.run allowed valid);
     }
 
 -- ---- disconnects
@@ -130,7 +130,7 @@ disconnect-done x y s i c spent before es st free by so noticed =
     let allowed : refusal s (event.Disconnect i c) ≡ None =
     disconnect-last s i c spent free by ∙ ap (λ b. first_met ((b, why.NoLabel) ∷ [])) so in record {
       allowed = allowed;
-      done = noticed s st.parts (may-disconnect s i c st.run allowed);
+      done = noticed s st.parts (reached-disconnects s i c st.run allowed);
     }
 
 -- ---- drains
@@ -165,7 +165,7 @@ drain-done x y z s i c k before mid es st free is noticed rests =
     by (link_at i c s.host) refl is
   where
     d : Does y (notices (host_event.Drain i c)) s before mid
-    d = noticed s st.parts (may-drain s i c)
+    d = noticed s st.parts (reached-drains s i c st.run free)
 
     t : State
     t = (notices (host_event.Drain i c) s).state
@@ -181,5 +181,5 @@ drain-done x y z s i c k before mid es st free is noticed rests =
           (does-given (λ m. idles m.connection) (in_state state.Draining l)
           (still-there i c s l found)
           (subst (λ n. Does z (idles n) t mid es) (sym (same-some l.connection k own))
-          (rests t d.stand (may-idle k t (knows-drains i c s free (knows-reached s st.run)))))));
+          (rests t d.stand (reached-drained s i c k st.run free)))));
     }

@@ -8,7 +8,7 @@ use Rattle.gb_bus.specs.Listing.{count}
 use Rattle.gb_base.specs.declared.end.Side.TheVariants as side
 use Rattle.gb_base.specs.declared.entry.Entry.{Entry}
 use Rattle.gb_base.specs.declared.outcome.Outcome.{Outcome}
-use Rattle.gb_base.specs.declared.peers.Link.{Link}
+use Rattle.gb_base.specs.declared.interface.Link.{Link}
 use Rattle.gb_invariants.proofs.Awaiting.{awaited, late, none-some, opened, same-some}
 use Rattle.gb_invariants.proofs.Lists.{in-behind}
 use Rattle.gb_machine.proofs.Opened.{machine_opened}
@@ -30,7 +30,8 @@ use Rattle.gb_system.proofs.Doings.{does-as, does-by_state, does-given, does-not
 use Rattle.gb_system.proofs.Doings.{does-unless, does-when}
 use Rattle.gb_system.proofs.Loadings.{follows-none}
 use Rattle.gb_system.specs.Doing.{Does}
-use Rattle.gb_system.specs.Ending.{IsAwaited, IsOver, MayFollow, MayIdle}
+use Rattle.gb_system.specs.Ending.{IsAwaited, IsOver}
+use Rattle.gb_laws.specs.Possible.{MayFollow, MayIdle}
 use Rattle.gb_system.specs.Stands.{PartsStand, around_bus}
 use Rattle.gb_system.specs.Ticking.{given_up}
 use Rattle.gb_system.specs.declared.ending.Over.{Over}

@@ -335,8 +335,7 @@ control_read_fits : (m : Module) (read : Result ControlAsk PayloadFault)
 control_read_fits m (Ok ask) h = control_fits m ask h
 control_read_fits m (Err fault) h = record { served = plain_fits _; manifest = refl }
 
--- What a module answers and asks fits into messages where the request does, and its manifest
--- stays.
+-- What a module answers and asks fits into messages where the request does, and its manifest stays.
 pub module_fits : (m : Module) (c kind : ℕ) (payload : List ℕ) → length payload ≤ most_payload
     → length m.manifest ≤ most_payload → StepFits m (module_serve m c kind payload)
 module_fits m c kind payload short h = by (c == 0)

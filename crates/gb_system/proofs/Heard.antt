@@ -7,14 +7,14 @@ use Rattle.std.specs.Prelude.{Result, Ok, Err}
 use Rattle.gb_base.specs.declared.end.End.{End}
 use Rattle.gb_base.specs.declared.end.Side.TheVariants as side
 use Rattle.gb_base.specs.declared.entry.Entry.TheVariants as entry
-use Rattle.gb_base.specs.declared.fault.RawFault.{RawFault}
+use Rattle.gb_base.specs.declared.reasons.RawFault.{RawFault}
 use Rattle.gb_bus.specs.Delivering.{MayReply, taken_from}
 use Rattle.gb_bus.specs.declared.answers.Asked.{Asked}
 use Rattle.gb_formats.specs.Message.{Message}
 use Rattle.gb_formats.specs.Results.{most_payload}
 use Rattle.gb_formats.specs.Wire.{raw_message}
 use Rattle.gb_invariants.proofs.Awaiting.{same-some}
-use Rattle.gb_laws.proofs.marks.MarkNotices.{numbered-ask}
+use Rattle.gb_invariants.proofs.Requests.{numbered-ask}
 use Rattle.gb_machine.specs.Arriving.{dropped}
 use Rattle.gb_machine.specs.Bus.{Ask, Bus, Connection, Item, Raw, RawReply, Reply, Request}
 use Rattle.gb_machine.specs.Bus.{request_of}

@@ -20,9 +20,9 @@ use Rattle.gb_machine.proofs.Opened.{machine_opened}
 use Rattle.gb_machine.specs.Actions.{change, given, tell}
 use Rattle.gb_machine.specs.Arriving.{asked_at, dropped, is_held, keeps, takes, with_held}
 use Rattle.gb_machine.specs.Bus.{Connection, Item, Place}
-use Rattle.gb_machine.specs.Events.{does}
+use Rattle.gb_machine.specs.Events.{does, with_hold}
 use Rattle.gb_machine.specs.Incoming.{Incoming, incoming, request_in}
-use Rattle.gb_machine.specs.LineActions.{serves_held, with_hold}
+use Rattle.gb_machine.specs.LineActions.{serves_held}
 use Rattle.gb_machine.specs.Lists.{Condition, first_met}
 use Rattle.gb_machine.specs.Refusals.{is_unplugged, module_place}
 use Rattle.gb_machine.specs.Responding.{serves}

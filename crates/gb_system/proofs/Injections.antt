@@ -15,7 +15,7 @@ use Rattle.gb_bus.specs.Stands as bus
 use Rattle.gb_bus.specs.Wiring.{ends_of}
 use Rattle.gb_bus.specs.declared.bus.Bus.{Bus}
 use Rattle.gb_invariants.proofs.Awaiting.{same-some}
-use Rattle.gb_laws.proofs.points.Places.{place-is}
+use Rattle.gb_invariants.proofs.Places.{place-is}
 use Rattle.gb_machine.proofs.Opened.{machine_opened}
 use Rattle.gb_machine.proofs.Steps.{told}
 use Rattle.gb_machine.specs.Actions.{given}

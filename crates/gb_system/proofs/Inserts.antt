@@ -10,10 +10,7 @@ use Rattle.gb_base.specs.declared.event.Kind.{Kind}
 use Rattle.gb_base.specs.declared.refusal.Refusal.TheVariants as why
 use Rattle.gb_formats.specs.Module.{Module, module_of_kind, module_raw}
 use Rattle.gb_invariants.proofs.Awaiting.{not-both}
-use Rattle.gb_laws.proofs.runs.Reached.{reached-has}
-use Rattle.gb_laws.proofs.runs.Runs.{weaker}
-use Rattle.gb_laws.proofs.svc.WiredRuns.{WiredTo, wired-throughout}
-use Rattle.gb_laws.proofs.svc.WiredWell.{WiredFit}
+use Rattle.gb_laws.proofs.runs.Reached.{reached-powered}
 use Rattle.gb_machine.proofs.Opened.{machine_opened}
 use Rattle.gb_machine.specs.Lists.{Condition, first_met, span}
 use Rattle.gb_machine.specs.Modules.{is_plugged, module_at}
@@ -26,7 +23,7 @@ use Rattle.gb_machine.specs.Refusals.{is_beyond, is_taken}
 use Rattle.gb_machine.specs.State.{Plugged, State}
 use Rattle.gb_system.proofs.Doings.{does-as}
 use Rattle.gb_system.proofs.Plugged.{there-is}
-use Rattle.gb_system.specs.Acting.{IsAskable}
+use Rattle.gb_laws.specs.Possible.{IsAskable}
 use Rattle.gb_system.specs.Doing.{Does, IsDone}
 use Rattle.gb_system.specs.Drafts.{own_ask}
 use Rattle.gb_system.specs.Stands.{PartsStand}
@@ -41,12 +38,8 @@ pub unpowered-there : (s : State) (i : ℕ) → OfARun s → is_plugged i s.modu
     → is_powered i s.ports ≡ false
 unpowered-there s i run free = by (is_powered i s.ports) refl
   where
-    fit : WiredFit s
-    fit = reached-has WiredFit (weaker WiredTo (λ told t. WiredFit t) (λ told t h. h.wired)
-        wired-throughout) s run
-
     by : (b : Bool) → is_powered i s.ports ≡ b → b ≡ false
-    by true e = absurd (not-both (is_plugged i s.modules) (fit.powered i e) free)
+    by true e = absurd (not-both (is_plugged i s.modules) (reached-powered s i run e) free)
     by false e = refl
 
 -- a module is there, by the code's answer

@@ -53,6 +53,5 @@ pub mod SvcSteps
 pub mod Takings
 pub mod TicketLines
 pub mod Ticks
-pub mod Turning
 pub mod Ways
 pub mod WordNumbers

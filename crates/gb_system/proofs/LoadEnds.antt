@@ -31,7 +31,7 @@ use Rattle.gb_system.proofs.Loadings.{goes-as, goes-well, past_by, with_followed
 use Rattle.gb_system.proofs.Midways.{Midway, midway-as, midway-first, midway-here, midway-more}
 use Rattle.gb_system.proofs.ModuleServes.{short-at, short-with, stands-with}
 use Rattle.gb_system.proofs.Standing.{reloaded, repast}
-use Rattle.gb_system.specs.Acting.{IsAskable}
+use Rattle.gb_laws.specs.Possible.{IsAskable}
 use Rattle.gb_system.specs.Doing.{Does}
 use Rattle.gb_system.specs.Loading.{IsFit, LoadsAt, LoadsThere, asks_last, follows_at, follows_by}
 use Rattle.gb_system.specs.Loading.{if_can, load_way, whose, with_last}

@@ -35,7 +35,7 @@ use Rattle.gb_system.proofs.HeldAsks.{IsAt, is-at}
 use Rattle.gb_system.proofs.Loadings.{load-manifest}
 use Rattle.gb_system.proofs.ModuleServes.{short-at, short-with, stands-with}
 use Rattle.gb_system.proofs.Standing.{rehosted, repast}
-use Rattle.gb_system.specs.Acting.{IsAskable}
+use Rattle.gb_laws.specs.Possible.{IsAskable}
 use Rattle.gb_system.specs.Doing.{Does, IsDone, IsRefused}
 use Rattle.gb_system.specs.Loading.{BeginsAt, LoadsOver, asks_last}
 use Rattle.gb_system.specs.Stands.{PartsStand}

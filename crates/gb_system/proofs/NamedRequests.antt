@@ -17,8 +17,7 @@ use Rattle.gb_bus.specs.Naming.{KeepsAs, asked_for, with_name, without_name}
 use Rattle.gb_bus.specs.Slots.{most_names}
 use Rattle.gb_bus.specs.Stands as bus
 use Rattle.gb_bus.specs.declared.bus.Bus as code
-use Rattle.gb_laws.proofs.runs.Noticing.{knows-gave_up, knows-reached}
-use Rattle.gb_laws.proofs.runs.Reached.{reached-names}
+use Rattle.gb_laws.proofs.runs.Reached.{reached-gave_up, reached-names}
 use Rattle.gb_machine.proofs.Options.{none-of}
 use Rattle.gb_machine.proofs.Opened.{machine_opened}
 use Rattle.gb_machine.specs.Actions.{change, given, tell, ◌▸◌}
@@ -38,9 +37,9 @@ use Rattle.gb_system.proofs.Endings.{lost}
 use Rattle.gb_system.proofs.NameCounts.{count-bound, count-freed, length-sorted, made-bound}
 use Rattle.gb_system.proofs.NameCounts.{made-freed, named-asked}
 use Rattle.gb_system.proofs.Standing.{rebussed}
-use Rattle.gb_system.proofs.Turning.{may-follow}
 use Rattle.gb_system.specs.Doing.{Does, IsDone, IsRefused}
-use Rattle.gb_system.specs.Ending.{IsAwaited, MayFollow}
+use Rattle.gb_system.specs.Ending.{IsAwaited}
+use Rattle.gb_laws.specs.Possible.{MayFollow}
 use Rattle.gb_system.specs.NameOrder.{AreApart}
 use Rattle.gb_system.specs.Showing.{pair_before}
 use Rattle.gb_system.specs.Stands.{PartiesStand, PartsStand, around_bus, held_items, names_of}
@@ -229,8 +228,7 @@ cancel-done x y z s name n before es st h cancels ends =
           does-cancels s name n names_it (does-gives_up s outcome.Cancelled n (ends
           (rebussed [] z (gave_up n outcome.Cancelled s.bus) st.parts cancels.stands refl)
           (lost n outcome.Cancelled s cancels.unended)
-          (may-follow n outcome.Cancelled (given_up n outcome.Cancelled s)
-          (knows-gave_up n outcome.Cancelled (knows-reached s st.run)))));
+          (reached-gave_up s n outcome.Cancelled st.run)));
     }
 
 -- ---- copies

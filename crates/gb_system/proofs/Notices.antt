@@ -1,10 +1,11 @@
 -- The acts of a turn are done one after another, as the machine does them.
 use Rattle.std.proofs.Common.{◌≡◌, ℕ, Bool, true, false, Option, Some, None, IsSome, List, [], ◌∷◌}
-use Rattle.std.proofs.Common.{append-nil, append_assoc, refl, sym, ap, ◌∙◌, subst}
+use Rattle.std.proofs.Common.{append-nil, append_assoc, arith, refl, sym, ap, ◌∙◌, subst}
 use Rattle.gb_base.specs.declared.end.Side.TheVariants as side
 use Rattle.gb_base.specs.declared.entry.Entry.{Entry}
 use Rattle.gb_base.specs.declared.host_event.HostEvent.{HostEvent}
-use Rattle.gb_host.specs.Turning.{Pends, Turns, asks, spelled}
+use Rattle.gb_base.specs.declared.host_event.HostEvent.TheVariants as host_event
+use Rattle.gb_host.specs.Turning.{HasInterfaces, Pends, Turns, asks, spelled}
 use Rattle.gb_host.specs.declared.acts.Act as code
 use Rattle.gb_host.specs.declared.acts.Act.TheVariants as act
 use Rattle.gb_host.specs.declared.host.Host.{Host}
@@ -12,7 +13,7 @@ use Rattle.gb_machine.proofs.Opened.{machine_opened}
 use Rattle.gb_machine.specs.Actions.{Action, Told, each, nothing, on_bus, tell, ◌▸◌}
 use Rattle.gb_machine.specs.Bus.{Bus}
 use Rattle.gb_machine.specs.Failures.{unsent}
-use Rattle.gb_machine.specs.HostActs.{acts, fails, host_asks, notices, opened_with}
+use Rattle.gb_machine.specs.HostActs.{acts, fails, host_asks, notices, made_with}
 use Rattle.gb_machine.specs.HostTurns.{host_turn}
 use Rattle.gb_machine.specs.Labels.{next_label}
 use Rattle.gb_machine.specs.State.{State}
@@ -21,7 +22,8 @@ use Rattle.gb_machine.specs.Wires.{shuts}
 use Rattle.gb_machine.specs.Wiring.{detached, shut_down}
 use Rattle.gb_system.proofs.Midways.{Midway, midway-as, midway-end, midway-here, midway-more}
 use Rattle.gb_system.proofs.Standing.{rehosted}
-use Rattle.gb_system.specs.Acting.{ActsAs, AreAsks, ArePossible, MayTurn, makes}
+use Rattle.gb_system.specs.Acting.{ActsAs, makes}
+use Rattle.gb_laws.specs.Possible.{AreAsks, AreInterfaces, ArePossible, MayTurn}
 use Rattle.gb_system.specs.Doing.{Does}
 use Rattle.gb_system.specs.Stands.{PartsStand}
 use Rattle.gb_system.specs.declared.parties.Parties.{Parties}
@@ -39,10 +41,10 @@ no-acts = refl
 -- a connection is opened where an identifier is left: it is made, and then its request
 opens-some : (m : Making) (q : Asking) (more : List Act) (s : State) (label : ℕ)
     → next_label q.on side.Ap s.bus ≡ Some label
-    → (acts (Act.Open m q) ▸ each more acts) s ≡ (makes m ▸ each (Act.Ask q ∷ more) acts) s
+    → (acts (Act.Make m q) ▸ each more acts) s ≡ (makes m ▸ each (Act.Ask q ∷ more) acts) s
 unfolding machine_opened makes
 opens-some m q more s label left =
-    ap (λ o. (opened_with o m q ▸ each more acts) s) left
+    ap (λ o. (made_with o m q ▸ each more acts) s) left
     ∙ ap (λ es. record { state = last.state; entries = es })
     (append_assoc (makes m s).entries (host_asks q mid).entries last.entries)
   where
@@ -55,9 +57,9 @@ opens-some m q more s label left =
 -- its request fails where none is left
 opens-none : (m : Making) (q : Asking) (more : List Act) (s : State)
     → next_label q.on side.Ap s.bus ≡ None
-    → (acts (Act.Open m q) ▸ each more acts) s ≡ (fails (unsent q.purpose) ▸ each more acts) s
+    → (acts (Act.Make m q) ▸ each more acts) s ≡ (fails (unsent q.purpose) ▸ each more acts) s
 unfolding machine_opened
-opens-none m q more s none = ap (λ o. (opened_with o m q ▸ each more acts) s) none
+opens-none m q more s none = ap (λ o. (made_with o m q ▸ each more acts) s) none
 
 acts-ask : (q : Asking) → acts (Act.Ask q) ≡ host_asks q
 unfolding machine_opened
@@ -108,6 +110,11 @@ notices-is : (e : HostEvent) (s : State) → notices e s
 unfolding machine_opened
 notices-is e s = refl
 
+-- the interfaces of a module that was inserted are interfaces
+pub interfaces-fit : (e : HostEvent) → AreInterfaces e → HasInterfaces e
+interfaces-fit (host_event.Inserted p count) most = omega (arith, most)
+interfaces-fit _ most = tt
+
 -- the turn is known, and nothing was done
 pub acting-first : {x : Parties} {s : State} {a : List Entry} (e : HostEvent) (y : Host)
     (all : List code.Act) → PartsStand [] x s → Turns (host_turn e s.host) [] y all → MayTurn e s
@@ -150,7 +157,7 @@ acting-end {x} {whole} {s} {a} {b} false left none g =
     is-none : (rest : List Act) → spelled rest ≡ [] → rest ≡ []
     is-none [] e = refl
     is-none (Act.Ask q ∷ more) e = absurd cc
-    is-none (Act.Open m q ∷ more) e = absurd cc
+    is-none (Act.Make m q ∷ more) e = absurd cc
     is-none (Act.Shut k ∷ more) e = absurd cc
     is-none (Act.Leave k ∷ more) e = absurd cc
     is-none (Act.Tell f ∷ more) e = absurd cc
@@ -161,7 +168,7 @@ acting-end {x} {whole} {s} {a} {b} false left none g =
 asks-possible : (acts : List Act) (b : Bus) → AreAsks acts → ArePossible acts b
 asks-possible [] b m = tt
 asks-possible (Act.Ask q ∷ rest) b m = m
-asks-possible (Act.Open w q ∷ rest) b m = absurd m
+asks-possible (Act.Make w q ∷ rest) b m = absurd m
 asks-possible (Act.Shut k ∷ rest) b m = absurd m
 asks-possible (Act.Leave k ∷ rest) b m = absurd m
 asks-possible (Act.Tell e ∷ rest) b m = asks-possible rest b m
@@ -170,7 +177,7 @@ asks-possible (Act.Tell e ∷ rest) b m = asks-possible rest b m
 asks-pend : (acts : List Act) (x : Host) → AreAsks acts → Pends acts x
 asks-pend [] x m = tt
 asks-pend (Act.Ask q ∷ rest) x m = asks-pend rest x m.1
-asks-pend (Act.Open w q ∷ rest) x m = absurd m
+asks-pend (Act.Make w q ∷ rest) x m = absurd m
 asks-pend (Act.Shut k ∷ rest) x m = absurd m
 asks-pend (Act.Leave k ∷ rest) x m = absurd m
 asks-pend (Act.Tell e ∷ rest) x m = asks-pend rest x m
@@ -203,8 +210,8 @@ asked-more {x} {y} {whole} {s} {a} {b} {c} skips later q more m may rest done = 
 -- a connection is made, or its request fails and is left out
 made-more : {x y : Parties} {whole : Action} {s : State} {a b c : List Entry} (skips : Bool)
     (later : List code.Act) (w : Making) (q : Asking) (more : List Act)
-    → (m : Midway x whole (each (Act.Open w q ∷ more) acts) s a b)
-    → ArePossible (Act.Open w q ∷ more) m.state.bus → Pends (Act.Open w q ∷ more) x.host
+    → (m : Midway x whole (each (Act.Make w q ∷ more) acts) s a b)
+    → ArePossible (Act.Make w q ∷ more) m.state.bus → Pends (Act.Make w q ∷ more) x.host
     → later ≡ asks q ∷ spelled more
     → ActsAs x.host y (act.Make w.ap w.intf w.cport w.protocol q.purpose) m.state skips b c
     → Acting y whole skips later s a c
@@ -213,7 +220,7 @@ made-more {x} {y} {whole} {s} {a} {b} {c} true later w q more m may pends rest d
   is_left = (asks q, rest);
   midway = midway-more (fails (unsent q.purpose)) (each more acts)
       (midway-here (fails (unsent q.purpose) ▸ each more acts)
-      (midway-as (acts (Act.Open w q) ▸ each more acts) (each-acts (Act.Open w q) more) m)
+      (midway-as (acts (Act.Make w q) ▸ each more acts) (each-acts (Act.Make w q) more) m)
       (opens-none w q more m.state
       (ap (λ k. next_label k side.Ap m.state.bus) may.0.on ∙ done.0))) done.1;
   possible = subst (λ (ms : List Act). ArePossible ms (fails (unsent q.purpose) m.state).state.bus)
@@ -226,7 +233,7 @@ made-more {x} {y} {whole} {s} {a} {b} {c} false later w q more m may pends rest 
       is_left = rest;
       midway = midway-more (makes w) (each (Act.Ask q ∷ more) acts)
           (midway-here (makes w ▸ each (Act.Ask q ∷ more) acts)
-          (midway-as (acts (Act.Open w q) ▸ each more acts) (each-acts (Act.Open w q) more) m)
+          (midway-as (acts (Act.Make w q) ▸ each more acts) (each-acts (Act.Make w q) more) m)
           (opens-some w q more m.state left.label
           (ap (λ k. next_label k side.Ap m.state.bus) may.0.on ∙ left.is)))
           (done.1 pends.0 may.0.attach may.0.intf may.0.cport);
@@ -269,7 +276,7 @@ acting-more {x} {y} {whole} {s} {a} {b} {c} left later now skips is g done =
         let others : later ≡ spelled more = cc in
         asked-more skips later q more m may others
         (subst (λ (z : code.Act). ActsAs x.host y z m.state skips b c) first d)
-    by (Act.Open w q ∷ more) e m may pends d =
+    by (Act.Make w q ∷ more) e m may pends d =
         let first : now ≡ act.Make w.ap w.intf w.cport w.protocol q.purpose = cc in
         let others : later ≡ asks q ∷ spelled more = cc in
         made-more skips later w q more m may pends others

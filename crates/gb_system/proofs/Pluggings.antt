@@ -9,7 +9,7 @@ use Rattle.gb_base.specs.declared.event.Event.TheVariants as event
 use Rattle.gb_formats.specs.Module.{Module, module_of_kind, module_raw}
 use Rattle.gb_formats.specs.Results.{most_payload}
 use Rattle.gb_invariants.proofs.Lists.{each-from, each-in}
-use Rattle.gb_laws.proofs.together.Manifests.{short-plugged, kind-short, raw-short}
+use Rattle.gb_invariants.proofs.Manifests.{short-plugged, kind-short, raw-short}
 use Rattle.gb_machine.proofs.Conditions.{unmet}
 use Rattle.gb_machine.proofs.Opened.{machine_opened}
 use Rattle.gb_machine.specs.Actions.{Action, change, each, nothing, when, ◌▸◌}

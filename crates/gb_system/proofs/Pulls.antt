@@ -29,7 +29,7 @@ use Rattle.gb_system.proofs.Midways.{Midway, each-cons, each-nil, midway-as, mid
 use Rattle.gb_system.proofs.Midways.{midway-more, midway-first}
 use Rattle.gb_system.proofs.Plugged.{span-all, span-next, span-past}
 use Rattle.gb_system.proofs.Standing.{repast}
-use Rattle.gb_system.specs.Acting.{IsAskable}
+use Rattle.gb_laws.specs.Possible.{IsAskable}
 use Rattle.gb_system.specs.Doing.{Does, IsDone, IsRefused}
 use Rattle.gb_system.specs.Drafts.{own_ask}
 use Rattle.gb_system.specs.Plugging.{span_of}

@@ -5,7 +5,7 @@ use Rattle.std.proofs.Common.{option_map, Result, Ok, Err, List, [], ◌∷◌, 
 use Rattle.gb_base.specs.declared.end.End.{End}
 use Rattle.gb_base.specs.declared.end.Side.{Side}
 use Rattle.gb_base.specs.declared.entry.Entry.TheVariants as entry
-use Rattle.gb_base.specs.declared.fault.RawFault.{RawFault}
+use Rattle.gb_base.specs.declared.reasons.RawFault.{RawFault}
 use Rattle.gb_bus.specs.Delivering.{Response, raw_response, response, response_in}
 use Rattle.gb_formats.specs.Message.{Message}
 use Rattle.gb_formats.specs.Wire.{raw_message}

@@ -6,11 +6,11 @@ use Rattle.gb_base.specs.declared.entry.ConnState.TheVariants as state
 use Rattle.gb_base.specs.declared.entry.Entry.{Entry}
 use Rattle.gb_base.specs.declared.entry.Entry.TheVariants as entry
 use Rattle.gb_base.specs.declared.event.Event.TheVariants as event
-use Rattle.gb_base.specs.declared.peers.Interface.{Interface}
-use Rattle.gb_base.specs.declared.peers.Link.{Link}
-use Rattle.gb_bus.specs.Telling.{known_of, waiting_of}
-use Rattle.gb_bus.specs.declared.telling.Known.{Known}
-use Rattle.gb_bus.specs.declared.telling.Waiting.{Waiting}
+use Rattle.gb_base.specs.declared.interface.Interface.{Interface}
+use Rattle.gb_base.specs.declared.interface.Link.{Link}
+use Rattle.gb_bus.specs.Overview.{known_of, waiting_of}
+use Rattle.gb_bus.specs.declared.overview.Known.{Known}
+use Rattle.gb_bus.specs.declared.overview.Waiting.{Waiting}
 use Rattle.gb_formats.specs.ShowTexts.{now_line}
 use Rattle.gb_host.specs.Stands.{host_of}
 use Rattle.gb_machine.proofs.Opened.{machine_opened}

@@ -13,7 +13,7 @@ use Rattle.gb_formats.specs.Module.{Module}
 use Rattle.gb_formats.specs.ModuleSteps.{module_stir}
 use Rattle.gb_formats.specs.Results.{Stirred, most_payload}
 use Rattle.gb_invariants.proofs.Awaiting.{same-some}
-use Rattle.gb_laws.proofs.together.Manifests.{stir-manifest}
+use Rattle.gb_invariants.proofs.Manifests.{stir-manifest}
 use Rattle.gb_machine.proofs.Opened.{machine_opened}
 use Rattle.gb_machine.specs.Actions.{Action, by_state, given}
 use Rattle.gb_machine.specs.Bus.{Place}

@@ -84,8 +84,7 @@ by_read ports (Ok ask) = by_ask ports ask
 by_read ports (Err fault) = tt
 
 -- What connections are to decide leaves the interfaces, and an interface loses its route where it
--- has
--- one.
+-- has one.
 pub leaves-ports : (ports : List Port) (kind : ℕ) (payload : List ℕ)
     → LeavesPorts ports (svc_step ports kind payload)
 leaves-ports ports kind payload = by_read ports (read_svc_ask_of_ap kind payload)

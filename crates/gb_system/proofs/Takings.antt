@@ -6,7 +6,7 @@ use Rattle.gb_base.specs.declared.end.End.TheVariants as end
 use Rattle.gb_base.specs.declared.end.Side.{Side}
 use Rattle.gb_base.specs.declared.end.Side.TheVariants as side
 use Rattle.gb_base.specs.declared.entry.ConnState.{ConnState}
-use Rattle.gb_base.specs.declared.peers.Link.{Link}
+use Rattle.gb_base.specs.declared.interface.Link.{Link}
 use Rattle.gb_bus.specs.Stands as bus
 use Rattle.gb_bus.specs.Wiring.{number_of}
 use Rattle.gb_bus.specs.declared.bus.Bus.{Bus}
@@ -14,7 +14,7 @@ use Rattle.gb_host.specs.Stands as host
 use Rattle.gb_host.specs.declared.host.Host.{Host}
 use Rattle.gb_invariants.proofs.Awaiting.{same-some}
 use Rattle.gb_bus.specs.Stands.{Around}
-use Rattle.gb_laws.proofs.points.Places.{place-is}
+use Rattle.gb_invariants.proofs.Places.{place-is}
 use Rattle.gb_machine.specs.Arriving.{link_takes, takes}
 use Rattle.gb_machine.specs.Bus as machine
 use Rattle.gb_machine.specs.Bus.{Connection, Place, end_of, place_of}

@@ -1,5 +1,5 @@
 -- Time passes, and requests whose deadline came are given up as the machine does.
-use Rattle.std.proofs.Common.{◌≡◌, ℕ, ◌+◌, true, false, Result, Ok, Err, is_ok, List, [], ◌∷◌, ◌++◌}
+use Rattle.std.proofs.Common.{◌≡◌, ℕ, ◌+◌, true, false, Result, Ok, Err, is_ok, List, [], ◌∷◌}
 use Rattle.std.proofs.Common.{drop, refl, sym, ap, ◌∙◌, subst}
 use Rattle.gb_base.specs.declared.bridge.Reading.TheVariants as reading
 use Rattle.gb_base.specs.declared.entry.Entry.{Entry}
@@ -10,10 +10,8 @@ use Rattle.gb_bus.specs.Cancelling.{GivesUpAs}
 use Rattle.gb_bus.specs.declared.answers.AlreadyEnded.{AlreadyEnded}
 use Rattle.gb_bus.specs.declared.bus.Bus as code
 use Rattle.gb_invariants.proofs.Awaiting.{not-both}
-use Rattle.gb_laws.proofs.runs.Midway.{known-held, known-resting, known_law}
-use Rattle.gb_laws.proofs.runs.Noticing.{knows-gave_up}
-use Rattle.gb_laws.proofs.points.Points.{resting}
-use Rattle.gb_laws.proofs.steps.Ticking.{Ticks, due_by, ticks-first, ticks-next}
+use Rattle.gb_laws.proofs.runs.Reached.{IsTicking, ticking-first, ticking-follows, ticking-next}
+use Rattle.gb_laws.proofs.runs.Reached.{ticking-open}
 use Rattle.gb_machine.proofs.Opened.{machine_opened}
 use Rattle.gb_machine.specs.Actions.{each, tell, ◌▸◌}
 use Rattle.gb_machine.specs.Bus.{is_open}
@@ -22,16 +20,15 @@ use Rattle.gb_machine.specs.GivingUp.{gives_up, later_by}
 use Rattle.gb_machine.specs.HostActs.{follows}
 use Rattle.gb_machine.specs.Reached.{OfARun}
 use Rattle.gb_machine.specs.Requests.{gave_up, is_due, open_requests}
-use Rattle.gb_machine.specs.Runs.{Moment}
 use Rattle.gb_machine.specs.State.{State}
 use Rattle.gb_system.proofs.Doings.{does-by_state, does-change, does-then}
 use Rattle.gb_system.proofs.Midways.{Midway, each-cons, midway-as, midway-first, midway-more}
 use Rattle.gb_system.proofs.NamedRequests.{does-gives_up}
 use Rattle.gb_system.proofs.Standing.{rebussed}
 use Rattle.gb_system.proofs.Endings.{lost}
-use Rattle.gb_system.proofs.Turning.{may-follow}
 use Rattle.gb_system.specs.Doing.{Does, IsDone}
-use Rattle.gb_system.specs.Ending.{IsAwaited, MayFollow}
+use Rattle.gb_system.specs.Ending.{IsAwaited}
+use Rattle.gb_laws.specs.Possible.{MayFollow}
 use Rattle.gb_system.specs.Stands.{PartsStand, around_bus}
 use Rattle.gb_system.specs.Ticking.{MayTimeOut, given_up}
 use Rattle.gb_system.specs.declared.parties.Parties.{Parties}
@@ -65,17 +62,12 @@ time-kept s n (Err fault) z may gives ok =
 
 -- ---- a tick
 
--- the moment of a tick
-abbrev pub ticking : State → ℕ → Moment
-ticking s millis = record { told = []; before = s; event = event.Tick millis }
-
 -- Midway through a tick: these of all requests that are due are left.
-pub record MidTick (x : Parties) (s : State) (run : OfARun s) (millis : ℕ) (all left : List ℕ)
+pub record MidTick (x : Parties) (s : State) (millis : ℕ) (all left : List ℕ)
     (before told : List Entry) : Type 0 where
   pub midway : Midway x (each all (gives_up outcome.Timeout))
       (each left (gives_up outcome.Timeout)) (later_by millis s) before told
-  pub so_far : List Entry
-  pub going : Ticks (ticking s millis) (known_law (ticking s millis) run) left so_far midway.state
+  pub going : IsTicking s millis left midway.state
 
 -- the parties stand for the time that is passed
 pub later-stand : {x : Parties} {s : State} (millis time : ℕ) → PartsStand [] x s
@@ -96,64 +88,58 @@ later-stand {x} {s} millis time st is = record {
   held = st.held;
 }
 
--- which requests are due by the parties' time
+-- which requests are due at a time
+abbrev pub due_at : ℕ → State → List ℕ
+due_at now s = open_requests (is_due now) s.bus
+
+-- those by the parties' time
 pub due-are : {x : Parties} (s : State) (millis time : ℕ) → PartsStand [] x s
     → time ≡ x.time + millis
-    → open_requests (is_due time) s.bus ≡ due_by (s.now + millis) s
+    → open_requests (is_due time) s.bus ≡ due_at (s.now + millis) s
 due-are s millis time st is =
-    ap (λ n. due_by n s) (is ∙ sym (ap (λ n. n + millis) st.time))
+    ap (λ n. due_at n s) (is ∙ sym (ap (λ n. n + millis) st.time))
 
 -- at first all are left
 pub mid-first : {x : Parties} {s : State} {a : List Entry} (run : OfARun s) (millis : ℕ)
-    (all : List ℕ) → PartsStand [] x (later_by millis s) → all ≡ due_by (s.now + millis) s
-    → MidTick x s run millis all all a a
+    (all : List ℕ) → PartsStand [] x (later_by millis s) → all ≡ due_at (s.now + millis) s
+    → MidTick x s millis all all a a
 mid-first {x} {s} {a} run millis all st is = record {
   midway = midway-first (each all (gives_up outcome.Timeout)) st;
-  so_far = [];
-  going = subst (λ ns. Ticks (ticking s millis) (known_law (ticking s millis) run) ns []
-      (later_by millis s)) (sym is)
-      (ticks-first (ticking s millis) (known_law (ticking s millis) run) millis [] refl
-      (known-resting (ticking s millis) run));
+  going = subst (λ ns. IsTicking s millis ns (later_by millis s)) (sym is)
+      (ticking-first s millis run);
 }
 
 -- the next one may time out
-pub mid-may : {x : Parties} {s : State} {a b : List Entry} {run : OfARun s} {millis : ℕ}
-    {all rest : List ℕ} (n : ℕ) → (t : MidTick x s run millis all (n ∷ rest) a b)
-    → MayTimeOut n t.midway.state
-mid-may {s = s} {run = run} {millis = millis} n t =
-    let u = t.midway.state in
-    let known = known-held (ticking s millis) run (resting t.so_far u) t.going.holds in
-    record {
-      unended = t.going.late.0.unended;
-      follow = may-follow n outcome.Timeout (given_up n outcome.Timeout u)
-          (knows-gave_up n outcome.Timeout (record { links = known.links; alive = known.alive }));
-    }
+pub mid-may : {x : Parties} {s : State} {a b : List Entry} {millis : ℕ} {all rest : List ℕ}
+    (n : ℕ) → (t : MidTick x s millis all (n ∷ rest) a b) → MayTimeOut n t.midway.state
+mid-may {s = s} {millis = millis} {rest = rest} n t = record {
+  unended = ticking-open s millis n rest t.midway.state t.going;
+  follow = ticking-follows s millis n rest t.midway.state t.going;
+}
 
 -- where one is left at a place
-pub mid-at : {x : Parties} {s : State} {a b : List Entry} {run : OfARun s} {millis : ℕ}
+pub mid-at : {x : Parties} {s : State} {a b : List Entry} {millis : ℕ}
     {all : List ℕ} (i n : ℕ) → drop i all ≡ n ∷ drop (i + 1) all
-    → MidTick x s run millis all (drop i all) a b
-    → MidTick x s run millis all (n ∷ drop (i + 1) all) a b
-mid-at {x} {s} {a} {b} {run} {millis} {all} i n next t =
-    subst (λ ns. MidTick x s run millis all ns a b) next t
+    → MidTick x s millis all (drop i all) a b
+    → MidTick x s millis all (n ∷ drop (i + 1) all) a b
+mid-at {x} {s} {a} {b} {millis} {all} i n next t =
+    subst (λ ns. MidTick x s millis all ns a b) next t
 
 -- one more is given up
-pub mid-next : {x y : Parties} {s : State} {a b c : List Entry} {run : OfARun s} {millis : ℕ}
-    {all rest : List ℕ} (n : ℕ) → (t : MidTick x s run millis all (n ∷ rest) a b)
-    → Does y (gives_up outcome.Timeout n) t.midway.state b c → MidTick y s run millis all rest a c
-mid-next {s = s} {run = run} {millis = millis} {rest = rest} n t d = record {
+pub mid-next : {x y : Parties} {s : State} {a b c : List Entry} {millis : ℕ}
+    {all rest : List ℕ} (n : ℕ) → (t : MidTick x s millis all (n ∷ rest) a b)
+    → Does y (gives_up outcome.Timeout n) t.midway.state b c → MidTick y s millis all rest a c
+mid-next {s = s} {millis = millis} {rest = rest} n t d = record {
   midway = midway-more (gives_up outcome.Timeout n) (each rest (gives_up outcome.Timeout))
       (midway-as (gives_up outcome.Timeout n ▸ each rest (gives_up outcome.Timeout))
       (each-cons n rest (gives_up outcome.Timeout)) t.midway) d;
-  so_far = t.so_far ++ (gives_up outcome.Timeout n t.midway.state).entries;
-  going = ticks-next (ticking s millis) (known_law (ticking s millis) run) n rest t.so_far
-      t.midway.state t.going;
+  going = ticking-next s millis n rest t.midway.state t.going;
 }
 
 -- all that were due are given up
 does-ticks : {x y : Parties} (s : State) (millis : ℕ) {a b : List Entry}
     → PartsStand [] x (later_by millis s)
-    → Does y (each (due_by (s.now + millis) s) (gives_up outcome.Timeout)) (later_by millis s) a b
+    → Does y (each (due_at (s.now + millis) s) (gives_up outcome.Timeout)) (later_by millis s) a b
     → Does y (does (event.Tick millis)) s a b
 unfolding machine_opened
 does-ticks s millis st d =
@@ -161,7 +147,7 @@ does-ticks s millis st d =
     (does-by_state (λ t. each (open_requests (is_due t.now) t.bus) (gives_up outcome.Timeout)) d)
 
 pub tick-done : (x y : Parties) (s : State) (millis : ℕ) (all : List ℕ) (before es : List Entry)
-    → PartsStand [] x (later_by millis s) → all ≡ due_by (s.now + millis) s
+    → PartsStand [] x (later_by millis s) → all ≡ due_at (s.now + millis) s
     → Does y (each all (gives_up outcome.Timeout)) (later_by millis s) before es
     → IsDone y s (event.Tick millis) before es
 tick-done x y s millis all before es st is d = record {

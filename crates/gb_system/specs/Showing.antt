@@ -4,8 +4,8 @@ use Rattle.gb_base.specs.declared.entry.Entry.{Entry}
 use Rattle.gb_base.specs.declared.entry.Entry.TheVariants as entry
 use Rattle.gb_base.specs.declared.name.Name.{Name}
 use Rattle.gb_bus.specs.Naming.{asked_for}
-use Rattle.gb_bus.specs.declared.telling.Known.{Known}
-use Rattle.gb_bus.specs.declared.telling.Waiting.{Waiting}
+use Rattle.gb_bus.specs.declared.overview.Known.{Known}
+use Rattle.gb_bus.specs.declared.overview.Waiting.{Waiting}
 use Rattle.gb_formats.specs.ShowTexts.{connection_line, queue_line}
 use Rattle.gb_machine.specs.Bus.{Bus}
 use Rattle.gb_machine.specs.Host.{Host, link_of}

@@ -1,6 +1,6 @@
 -- What the value of a system stands for.
 use Rattle.std.specs.Prelude.{◌≡◌, ℕ, ◌==◌, ◌≤◌, ◌<◌, Bool, false, Some, Result, Ok, Err, ⊤, List}
-use Rattle.std.specs.Prelude.{[], ◌∷◌, ◌++◌, length, map}
+use Rattle.std.specs.Prelude.{[], ◌∷◌, ◌++◌, is_some, length, map}
 use Rattle.gb_base.specs.declared.end.Side.TheVariants as side
 use Rattle.gb_base.specs.declared.entry.Entry.{Entry}
 use Rattle.gb_base.specs.declared.errors.OutOfMemory.{OutOfMemory}
@@ -116,7 +116,7 @@ taken_of x = x.taken
 
 -- whether a step found no memory
 abbrev pub has_failed : System → Bool
-has_failed x = x.failed
+has_failed x = is_some x.failed
 
 -- A system stands for the states for which its parties do.
 abbrev pub Stands : System → State → Type 0

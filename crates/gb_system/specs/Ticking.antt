@@ -5,7 +5,7 @@ use Rattle.gb_base.specs.declared.outcome.Outcome.TheVariants as outcome
 use Rattle.gb_machine.specs.Bus.{is_open}
 use Rattle.gb_machine.specs.Requests.{gave_up}
 use Rattle.gb_machine.specs.State.{State}
-use Rattle.gb_system.specs.Ending.{MayFollow}
+use Rattle.gb_laws.specs.Possible.{MayFollow}
 
 -- the state once a request is given up
 abbrev pub given_up : ℕ → Outcome → State → State

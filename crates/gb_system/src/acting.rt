@@ -7,7 +7,8 @@ ghost use Rattle.gb_machine.specs.Failures.{unsent};
 ghost use Rattle.gb_machine.specs.Requests.{open_on};
 ghost use Rattle.gb_machine.specs.State.{State};
 ghost use Rattle.gb_machine.specs.Wires.{disconnected_told, shuts, unwires};
-ghost use Rattle.gb_system.specs.Acting.{ActsAs, IsAskable, MakesAs, MayTurn};
+ghost use Rattle.gb_system.specs.Acting.{ActsAs, MakesAs};
+ghost use Rattle.gb_laws.specs.Possible.{IsAskable, MayTurn};
 ghost use Rattle.gb_system.specs.Acting.{asking_of, making_of, tells_of};
 ghost use Rattle.gb_system.specs.Doing.{Does};
 ghost use Rattle.gb_system.specs.Stands.{PartsStand};
@@ -19,6 +20,7 @@ use gb_base::{
     ConnState, Entries, Entry, HostEvent, Numbers, OutOfMemory, Outcome, Purpose, Reading, Side,
     TryCopy,
 };
+use gb_bus::AttachFault;
 use gb_host::Act;
 
 impl Parties {
@@ -117,7 +119,12 @@ impl Parties {
             self.fail(purpose, told)?;
             return Ok(true);
         }
-        let connection = self.bus.attach(ap, intf, cport, protocol)?;
+        let connection = match self.bus.attach(ap, intf, cport, protocol) {
+            Ok(connection) => connection,
+            // It never comes: no live connection has an end of one that is made.
+            Err(AttachFault::Taken) => return Ok(false),
+            Err(AttachFault::Memory(refused)) => return Err(refused),
+        };
         self.host.made(purpose, connection);
         told.push(Entry::Connection {
             number: connection,

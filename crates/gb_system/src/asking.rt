@@ -7,7 +7,8 @@ ghost use Rattle.gb_machine.specs.Asking.{asks};
 ghost use Rattle.gb_machine.specs.Bus.{next_number};
 ghost use Rattle.gb_machine.specs.OwnAsking.{far_asks, far_asks_all};
 ghost use Rattle.gb_machine.specs.State.{State};
-ghost use Rattle.gb_system.specs.Acting.{AreAskable, IsAskable};
+ghost use Rattle.gb_system.specs.Acting.{AreAskable};
+ghost use Rattle.gb_laws.specs.Possible.{IsAskable};
 ghost use Rattle.gb_system.specs.Doing.{Does};
 ghost use Rattle.gb_system.specs.Drafts.{ask_told, draft_of, end_at, own_ask};
 ghost use Rattle.gb_system.specs.Stands.{PartsStand};
@@ -62,6 +63,7 @@ impl Parties {
         ) {
             Ok(sent) => sent,
             Err(SendFault::NoLabel) => return Ok(None),
+            Err(SendFault::NoConnection) => return Ok(None),
             Err(SendFault::Memory(refused)) => return Err(refused),
         };
         told.push(asked(self.alloc, q, ends, sent)?)?;

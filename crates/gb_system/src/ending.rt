@@ -3,7 +3,7 @@
 ghost use Rattle.std.specs.Prelude.{◌≡◌, [], IfOk, OnOk, Option, option_map};
 ghost use Rattle.gb_base.specs.declared.bridge.Reading.TheVariants as reading;
 ghost use Rattle.gb_base.specs.declared.entry.Entry.TheVariants as entry;
-ghost use Rattle.gb_base.specs.declared.peers.Link.{Link};
+ghost use Rattle.gb_base.specs.declared.interface.Link.{Link};
 ghost use Rattle.gb_machine.specs.Actions.{tell, ◌▸◌};
 ghost use Rattle.gb_machine.specs.Host.{is_draining};
 ghost use Rattle.gb_machine.specs.HostActs.{follows, host_follows, idles};
@@ -11,7 +11,8 @@ ghost use Rattle.gb_machine.specs.Lists.{holds_of};
 ghost use Rattle.gb_machine.specs.Loading.{load_of};
 ghost use Rattle.gb_machine.specs.State.{State};
 ghost use Rattle.gb_system.specs.Doing.{Does};
-ghost use Rattle.gb_system.specs.Ending.{IsAwaited, IsOver, MayFollow, MayIdle};
+ghost use Rattle.gb_system.specs.Ending.{IsAwaited, IsOver};
+ghost use Rattle.gb_laws.specs.Possible.{MayFollow, MayIdle};
 ghost use Rattle.gb_system.specs.Stands.{PartsStand};
 
 use crate::parties::Parties;

@@ -1,6 +1,6 @@
 //! Firmware images, and the downloads of modules.
 
-ghost use Rattle.std.specs.Prelude.{◌≡◌, [], List, IfOk, None, OnOk};
+ghost use Rattle.std.specs.Prelude.{◌≡◌, ◌<◌, [], List, IfOk, None, OnErr, OnOk};
 ghost use Rattle.gb_base.specs.declared.entry.Entry.{Entry};
 ghost use Rattle.gb_base.specs.declared.event.Event.TheVariants as event;
 ghost use Rattle.gb_formats.specs.ValidEvents.{IsValid};
@@ -11,7 +11,7 @@ ghost use Rattle.gb_machine.specs.Modules.{module_at};
 ghost use Rattle.gb_machine.specs.Responding.{disconnects};
 ghost use Rattle.gb_machine.specs.State.{State};
 ghost use Rattle.gb_module.specs.Loading.{refusal_in};
-ghost use Rattle.gb_system.specs.Acting.{IsAskable};
+ghost use Rattle.gb_laws.specs.Possible.{IsAskable};
 ghost use Rattle.gb_system.specs.Doing.{Does, EventAs};
 ghost use Rattle.gb_system.specs.Loading.{
   IsFit,
@@ -26,7 +26,7 @@ ghost use Rattle.gb_system.specs.Stands.{PartiesStand, PartsStand};
 
 use crate::parties::Parties;
 use crate::stop::Stop;
-use gb_base::{End, Entries, Entry, Next, OutOfMemory, Outcome, OwnAsk, Refusal, Side, Tag};
+use gb_base::{End, Entries, Entry, Next, OutOfMemory, Outcome, OwnAsk, Refusal, Side, Tag, sum};
 use gb_host::PutFault;
 
 impl Parties {
@@ -146,16 +146,15 @@ impl Parties {
         Ok(())
     }
 
-    /// The number of the next request that is made. Out of memory comes where that has no number of
-    /// 64 bits.
+    /// The number of the next request that is made. Out of memory comes exactly where that has no
+    /// number of 64 bits.
     fn next_request(&self) -> Result<u64, OutOfMemory>
-        ensures { IfOk result (λ n. (s : State) → PartsStand [] self.now s
+        ensures number { IfOk result (λ n. (s : State) → PartsStand [] self.now s
             → n ≡ next_number s.bus) }
+        ensures cause { OnErr result ((s : State) → PartsStand [] self.now s
+            → 18446744073709551615 < next_number s.bus) }
     {
-        match self.bus.tally().requests.checked_add(1) {
-            Some(number) => Ok(number),
-            None => Err(OutOfMemory),
-        }
+        sum(self.bus.tally().requests, 1)
     }
 
     /// The firmware device at a CPort makes a request, where there is a connection for it, and its

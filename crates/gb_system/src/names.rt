@@ -6,7 +6,7 @@ ghost use Rattle.gb_machine.specs.Names.{named, same_name};
 ghost use Rattle.gb_system.specs.Showing.{pair_before};
 
 use crate::key::Key;
-use gb_base::OutOfMemory;
+use gb_base::{OutOfMemory, sum};
 use std::alloc::Global;
 use std::collections::{BTreeMap, HashMap};
 use std::marker::Model;
@@ -71,9 +71,7 @@ impl Names {
         ensures err { OnErr result (self.new ≡ self.old) }
         ensures room { OnOk result (length self.old < 18446744073709551615) }
     {
-        if self.bound.len() == usize::MAX {
-            return Err(OutOfMemory);
-        }
+        sum(self.bound.len() as u64, 1)?;
         self.bound.insert(name, number)?;
         Ok(())
     }

@@ -12,7 +12,7 @@ ghost use Rattle.gb_machine.specs.Plugging.{pulls_one, tells_inserted, tells_rem
 ghost use Rattle.gb_machine.specs.Ports.{is_powered};
 ghost use Rattle.gb_machine.specs.Refusals.{insert_conditions};
 ghost use Rattle.gb_machine.specs.State.{State};
-ghost use Rattle.gb_system.specs.Acting.{IsAskable};
+ghost use Rattle.gb_laws.specs.Possible.{IsAskable};
 ghost use Rattle.gb_system.specs.Doing.{Does, EventAs};
 ghost use Rattle.gb_system.specs.Drafts.{own_ask};
 ghost use Rattle.gb_system.specs.Plugging.{IsWithin};
@@ -31,8 +31,8 @@ use gb_payload::svc_kinds::{HELLO, MODULE_INSERTED, MODULE_REMOVED, PROTOCOL_VER
 const INTERFACES_END: u8 = 32;
 
 impl Parties {
-    /// The supervisory controller starts: it sends its version, HELLO, and each module that is
-    /// plugged.
+    /// The supervisory controller starts: it sends its version, HELLO, and each module that
+    /// is plugged.
     pub fn boot(&mut self, told: &mut Entries) -> Result<(), Stop>
         ensures step { (s : State) → PartiesStand self.old s
             → EventAs self.new s event.Boot told.old told.new result }

@@ -8,7 +8,7 @@ ghost use Rattle.gb_machine.specs.Labels.{next_label};
 ghost use Rattle.gb_machine.specs.LineActions.{sends_on};
 ghost use Rattle.gb_machine.specs.Names.{named};
 ghost use Rattle.gb_machine.specs.State.{State};
-ghost use Rattle.gb_system.specs.Acting.{IsAskable};
+ghost use Rattle.gb_laws.specs.Possible.{IsAskable};
 ghost use Rattle.gb_system.specs.Doing.{Does, EventAs};
 ghost use Rattle.gb_system.specs.Sending.{GoesAs, LeadsAs};
 ghost use Rattle.gb_system.specs.Stands.{PartiesStand, PartsStand};

@@ -22,7 +22,8 @@ pub struct System {
     /// Room for the payload of a bridge line.
     room: Vec<u8>,
     taken: u64,
-    failed: bool,
+    /// What was refused to a step that found no memory.
+    failed: Option<OutOfMemory>,
     ghost wide: { length room.items ≡ most_payload },
 }
 
@@ -40,7 +41,7 @@ impl System {
             parties: Parties::new(alloc)?,
             room: vec![in alloc; 0; MOST_PAYLOAD]?,
             taken: 0,
-            failed: false,
+            failed: None,
         })
     }
 
@@ -74,8 +75,8 @@ impl System {
         ensures failed { has_failed self.new ≡ is_err result }
         ensures later { has_failed self.old ≡ true → is_err result ≡ true }
     {
-        if self.failed {
-            return Err(OutOfMemory);
+        if let Some(refused) = self.failed {
+            return Err(refused);
         }
         match self.parties.event(e, self.room.as_mut_slice(), told) {
             Ok(()) => {
@@ -83,7 +84,7 @@ impl System {
                 Ok(())
             }
             Err(refused) => {
-                self.failed = true;
+                self.failed = Some(refused);
                 Err(refused)
             }
         }
@@ -122,7 +123,7 @@ impl System {
     pub fn memory_failed(&self) -> bool
         ensures { result ≡ has_failed self.now }
     {
-        self.failed
+        self.failed.is_some()
     }
 
     /// How many requests were made by both sides, and how these stand. After want of memory nothing

@@ -2,7 +2,7 @@
 
 ghost use Rattle.std.specs.Prelude.{◌≡◌, Option, Some, List, option_map};
 ghost use Rattle.gb_base.specs.declared.end.Side.TheVariants as side;
-ghost use Rattle.gb_base.specs.declared.peers.Link.{Link};
+ghost use Rattle.gb_base.specs.declared.interface.Link.{Link};
 ghost use Rattle.gb_invariants.specs.Facts.{Loose};
 ghost use Rattle.gb_machine.specs.Arriving.{link_takes, takes};
 ghost use Rattle.gb_machine.specs.Bus.{Place, place_of};

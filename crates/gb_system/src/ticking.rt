@@ -1,6 +1,6 @@
 //! Time that passes, and requests whose deadline comes.
 
-ghost use Rattle.std.specs.Prelude.{◌≡◌, ◌+◌, [], IfOk, OnOk};
+ghost use Rattle.std.specs.Prelude.{◌≡◌, ◌+◌, ◌<◌, [], IfOk, OnErr, OnOk};
 ghost use Rattle.gb_base.specs.declared.event.Event.TheVariants as event;
 ghost use Rattle.gb_base.specs.declared.outcome.Outcome.TheVariants as outcome;
 ghost use Rattle.gb_machine.specs.GivingUp.{gives_up};
@@ -11,7 +11,7 @@ ghost use Rattle.gb_system.specs.Ticking.{MayTimeOut};
 
 use crate::parties::Parties;
 use crate::stop::Stop;
-use gb_base::{Entries, OutOfMemory, Outcome};
+use gb_base::{Entries, OutOfMemory, Outcome, sum};
 
 impl Parties {
     /// Milliseconds pass: the open requests whose deadline came are given up, in order of number.
@@ -27,15 +27,13 @@ impl Parties {
         Ok(())
     }
 
-    /// The time at which a wait of so many milliseconds is over. Out of memory comes where that has
-    /// no number of 64 bits.
+    /// The time at which a wait of so many milliseconds is over. Out of memory comes exactly where
+    /// that has no number of 64 bits.
     pub fn deadline(&self, wait: u64) -> Result<u64, OutOfMemory>
-        ensures { IfOk result (λ d. d ≡ self.now.time + wait) }
+        ensures time { IfOk result (λ d. d ≡ self.now.time + wait) }
+        ensures cause { OnErr result (18446744073709551615 < self.now.time + wait) }
     {
-        match self.time.checked_add(wait) {
-            Some(time) => Ok(time),
-            None => Err(OutOfMemory),
-        }
+        sum(self.time, wait)
     }
 
     /// A request that is open is given up, since its deadline came, and what waited for it fails.

@@ -12,6 +12,7 @@ ghost use Rattle.std.specs.Prelude.{
   ◌∷◌,
   ◌++◌,
   IfOk,
+  IsOk,
   OnErr,
   OnOk,
   length,
@@ -130,10 +131,11 @@ impl<T: Copy> Table<T> {
         self.places.clear();
     }
 
-    /// The numbers that have an item, each with it, in order.
+    /// The numbers that have an item, each with it, in order. It takes no memory where none has.
     pub fn entries(&self, alloc: Global) -> Result<Sequence<(u64, T)>, OutOfMemory>
         ensures entries { IfOk result (λ es. es ≡ self.now) }
         ensures distinct { IfOk result (λ es. IsDistinct nat_eq (keys_of es)) }
+        ensures few { self.now ≡ [] → IsOk result }
     {
         let mut entries = Sequence::new(alloc);
         for place in 0..self.places.len() {
@@ -210,7 +212,8 @@ fn list<T: Copy>(
     n: u64,
     item: Option<T>,
 ) -> Result<(), OutOfMemory>
-    ensures { OnOk result (entries.new ≡ entries.old ++ entries_from n (item ∷ [])) }
+    ensures added { OnOk result (entries.new ≡ entries.old ++ entries_from n (item ∷ [])) }
+    ensures few { item ≡ None → IsOk result }
 {
     if let Some(item) = item {
         entries.push((n, item))?;

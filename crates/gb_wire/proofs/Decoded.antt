@@ -2,7 +2,7 @@
 use Rattle.std.proofs.Common.{◌≡◌, ℕ, ◌≤◌, List, length, take, Result, Ok, Err, sym, ap, ◌∙◌, IfOk}
 use Rattle.std.proofs.Common.{IsOkAnd}
 use Rattle.gb_base.specs.Bytes.{AreBytes}
-use Rattle.gb_base.specs.declared.fault.WireFault.{WireFault}
+use Rattle.gb_base.specs.declared.reasons.WireFault.{WireFault}
 use Rattle.gb_formats.specs.Message as formats
 use Rattle.gb_formats.specs.Wire.{Spells, decode_answer}
 use Rattle.gb_wire.specs.Decoding.{answer_of}

@@ -2,8 +2,8 @@
 use Rattle.std.proofs.Common.{◌≡◌, ℕ, ◌+◌, List, [], ◌∷◌, ◌++◌, take, drop, Result, Err, Option}
 use Rattle.std.proofs.Common.{Some, None, inr, refl, sym, ap, subst, ◌∙◌, append_assoc}
 use Rattle.std.proofs.lemmas.List.{append-nil, drop-drop, map-append}
-use Rattle.gb_base.specs.declared.fault.WireFault.{WireFault}
-use Rattle.gb_base.specs.declared.fault.WireFault.TheVariants as wire
+use Rattle.gb_base.specs.declared.reasons.WireFault.{WireFault}
+use Rattle.gb_base.specs.declared.reasons.WireFault.TheVariants as wire
 use Rattle.gb_formats.specs.Message.{Message}
 use Rattle.gb_formats.specs.Wire.{Spells, IsRest, IsStream, decode_answer}
 use Rattle.gb_wire.specs.MessageOf.{owned_message_of, messages_of}

@@ -8,7 +8,7 @@ use Rattle.std.proofs.Math.Seq.{take-add}
 use Rattle.gb_base.proofs.LittleEndian.{little_bytes-number2}
 use Rattle.byteorder.specs.Endian.{little_number}
 use Rattle.gb_base.specs.Bytes.{AreBytes}
-use Rattle.gb_base.specs.declared.fault.WireFault.{WireFault}
+use Rattle.gb_base.specs.declared.reasons.WireFault.{WireFault}
 use Rattle.gb_formats.specs.Bytes.{le16}
 use Rattle.gb_formats.specs.Message.{Message, message_size, spelling}
 use Rattle.gb_formats.specs.Wire.{Spells, header_size, size_field, kind_field, result_field}

@@ -6,8 +6,8 @@ use Rattle.std.proofs.Common.{length-take-le, zero, suc}
 use Rattle.std.proofs.lemmas.Bool.Decides.{nat_tests}
 use Rattle.std.proofs.lemmas.List.{get_or_append_left, get_or-drop}
 use Rattle.gb_base.specs.Bytes.{AreBytes}
-use Rattle.gb_base.specs.declared.fault.WireFault.{WireFault}
-use Rattle.gb_base.specs.declared.fault.WireFault.TheVariants as wire
+use Rattle.gb_base.specs.declared.reasons.WireFault.{WireFault}
+use Rattle.gb_base.specs.declared.reasons.WireFault.TheVariants as wire
 use Rattle.gb_formats.specs.Message.{Message, message_size}
 use Rattle.gb_formats.specs.Wire.{Spells, header_size, size_field, kind_field, result_field}
 use Rattle.gb_formats.specs.Wire.{IsShort, BeginsImpossible, IsRest, IsStream, decode_answer}

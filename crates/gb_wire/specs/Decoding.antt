@@ -1,7 +1,7 @@
 -- What decoding answers, as values of the code.
 use Rattle.std.specs.Prelude.{ℕ, nat_lt, if◌then◌else◌, List, Result, Ok, Err}
-use Rattle.gb_base.specs.declared.fault.WireFault.{WireFault}
-use Rattle.gb_base.specs.declared.fault.WireFault.TheVariants as wire
+use Rattle.gb_base.specs.declared.reasons.WireFault.{WireFault}
+use Rattle.gb_base.specs.declared.reasons.WireFault.TheVariants as wire
 use Rattle.gb_formats.specs.Message as formats
 use Rattle.gb_formats.specs.Wire.{header_size, size_field, result_field, is_wrong_request}
 use Rattle.gb_wire.specs.MessageOf.{message_of}

@@ -1,7 +1,7 @@
 -- What a feeder has handed out of a stream, and what it holds.
 use Rattle.std.specs.Prelude.{◌≡◌, ◌<◌, ◌≤◌, ℕ, List, length, Option, Some, None}
-use Rattle.gb_base.specs.declared.fault.WireFault.{WireFault}
-use Rattle.gb_base.specs.declared.fault.WireFault.TheVariants as wire
+use Rattle.gb_base.specs.declared.reasons.WireFault.{WireFault}
+use Rattle.gb_base.specs.declared.reasons.WireFault.TheVariants as wire
 use Rattle.gb_formats.specs.Message.{Message}
 use Rattle.gb_formats.specs.Wire.{header_size, longest_spelled_payload, size_field, result_field}
 use Rattle.gb_formats.specs.Wire.{IsShort, BeginsWrongRequest, IsStream}

@@ -4,7 +4,7 @@ ghost use Rattle.std.specs.Prelude.{◌≡◌, ℕ, ◌+◌, ◌≤◌, IfOk, On
 ghost use Rattle.std.specs.Prelude.{List, [], ◌++◌, length, take, drop, vec_len};
 ghost use Rattle.gb_formats.specs.Message.{Message};
 ghost use Rattle.gb_formats.specs.Wire.{IsStream};
-ghost use Rattle.gb_base.specs.declared.fault.WireFault.{WireFault};
+ghost use Rattle.gb_base.specs.declared.reasons.WireFault.{WireFault};
 ghost use Rattle.gb_wire.specs.MessageOf.{messages_of};
 ghost use Rattle.gb_wire.specs.Streams.{BeginsWith, HandedOut, Stopped, held};
 ghost use Rattle.gb_wire.specs.Feeding.{Feeds};

@@ -2,7 +2,7 @@
 use Rattle.std.proofs.Common.{◌≡◌, ℕ, ◌+◌, Bool, true, false, cond, ◌||◌, Option, Some, None, Ok}
 use Rattle.std.proofs.Common.{Err, List, [], ◌∷◌, ◌++◌, append-nil, refl, sym, ap, ◌∙◌}
 use Rattle.std.specs.Prelude.{is_err, is_some}
-use Rattle.gb_base.specs.declared.fault.CaptureFault.{CaptureFault}
+use Rattle.gb_base.specs.declared.reasons.CaptureFault.{CaptureFault}
 use Rattle.gb_formats.specs.AuditTexts.{audited, closing_text, unless_bad}
 use Rattle.gb_formats.specs.Captures.{Captured, bad_by, bad_from, captured, first_bad, heard_from}
 use Rattle.gb_formats.specs.Lines.{lines}

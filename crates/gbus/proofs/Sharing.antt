@@ -5,7 +5,7 @@ use Rattle.std.proofs.Common.{subst, ap, ◌∙◌, arith, length-append}
 use Rattle.std.specs.Prelude.{is_some, IfSome}
 use Rattle.std.specs.List.{list_any}
 use Rattle.std.proofs.lemmas.Bool.Decides.{nat_tests}
-use Rattle.gb_base.specs.declared.fault.LineReason.{LineReason}
+use Rattle.gb_base.specs.declared.reasons.LineReason.{LineReason}
 use Rattle.gb_base.specs.declared.parts.Asked.{Asked}
 use Rattle.gb_base.specs.declared.parts.Parts.{Parts}
 use Rattle.gb_formats.specs.Lines.{ended_lines, is_lf, last_line, lines, lines_after}

@@ -1,5 +1,6 @@
 pub mod Answers
 pub mod Driving
+pub mod Endings
 pub mod Jobs
 pub mod Program
 pub mod Reading

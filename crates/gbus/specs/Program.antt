@@ -4,7 +4,7 @@ use Rattle.std.specs.Prelude.{None, is_err, is_some, option_map, List, [], â—Œâˆ
 use Rattle.std.specs.Prelude.{codes}
 use Rattle.std.specs.Str.{bytes_eq}
 use Rattle.gb_base.specs.declared.event.Event.{Event}
-use Rattle.gb_base.specs.declared.fault.LineReason.{LineReason}
+use Rattle.gb_base.specs.declared.reasons.LineReason.{LineReason}
 use Rattle.gb_base.specs.declared.parts.Asked.{Asked}
 use Rattle.gb_base.specs.declared.parts.Parts.{Parts}
 use Rattle.gb_base.specs.declared.status.Status.{Status}

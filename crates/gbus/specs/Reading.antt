@@ -6,8 +6,8 @@ use Rattle.gb_base.specs.Faults.{Rose}
 use Rattle.gb_formats.specs.Lines.{longest_input}
 use Rattle.gbus.specs.declared.input.Input.{Input}
 use Rattle.gbus.specs.declared.input.Input.TheVariants as input
-use Rattle.gbus.specs.declared.input.ReadStop.{ReadStop}
-use Rattle.gbus.specs.declared.input.ReadStop.TheVariants as stop
+use Rattle.gbus.specs.declared.input.InputStop.{InputStop}
+use Rattle.gbus.specs.declared.input.InputStop.TheVariants as stop
 
 -- all bytes were read, and they are within the limit
 pub record IsWhole (left left_after : Option (List ℕ)) (bytes : List ℕ) : Type 0 where
@@ -24,10 +24,12 @@ pub record IsLong (left left_after : Option (List ℕ)) (front : List ℕ) : Typ
 
 -- By cases on the answer; `faults` are those before and after. After want of memory
 -- nothing is said.
-abbrev pub ReadsAll : Option (List ℕ) → Option (List ℕ) → ℕ → ℕ → Result Input ReadStop → Type 0
+abbrev pub ReadsAll : Option (List ℕ) → Option (List ℕ) → ℕ → ℕ → Result Input InputStop
+    → Type 0
 ReadsAll left after before faults (Ok (input.Whole bytes)) = IsWhole left after bytes.items
 ReadsAll left after before faults (Ok (input.TooLong front)) = IsLong left after front.items
 ReadsAll left after before faults (Err stop.Failed) = Rose before faults
+ReadsAll left after before faults (Err stop.Spent) = ⊥
 ReadsAll left after before faults (Err (stop.Memory refused)) = ⊤
 
 -- the bytes that were read and kept

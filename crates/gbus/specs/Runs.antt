@@ -18,8 +18,8 @@ use Rattle.gbus.specs.Program.{Audit, ByLine, Drive, Job, LineJob, Report, Share
 use Rattle.gbus.specs.Program.{events_in, has_bad, is_bad, last_text, lines_output, lines_text}
 use Rattle.gbus.specs.Program.{lines_within, verdict}
 use Rattle.gbus.specs.declared.answer.Answer.{Answer}
-use Rattle.gbus.specs.declared.input.ReadStop.{ReadStop}
-use Rattle.gbus.specs.declared.input.ReadStop.TheVariants as stop
+use Rattle.gbus.specs.declared.input.InputStop.{InputStop}
+use Rattle.gbus.specs.declared.input.InputStop.TheVariants as stop
 
 -- ---- how far a source is read
 
@@ -231,7 +231,8 @@ IsAnswerOf j left a =
     OfInput j left (λ text. Writes j text (bytes_in a.output) × (a.status ≡ verdict j text))
 
 -- By cases on the answer: a source that failed counts it. `faults` are those before and after.
-abbrev pub FailsAs : ℕ → ℕ → Result Answer ReadStop → Type 0
+abbrev pub FailsAs : ℕ → ℕ → Result Answer InputStop → Type 0
 FailsAs before faults (Ok a) = ⊤
 FailsAs before faults (Err stop.Failed) = Rose before faults
+FailsAs before faults (Err stop.Spent) = ⊤
 FailsAs before faults (Err (stop.Memory refused)) = ⊤

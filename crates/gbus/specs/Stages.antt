@@ -7,11 +7,13 @@ use Rattle.gb_base.specs.declared.sink.WriteStop.TheVariants as stop
 use Rattle.gb_base.specs.declared.status.Status.{Status}
 use Rattle.gb_base.specs.declared.status.Status.TheVariants as status
 use Rattle.gb_script.specs.Readers.{Reads, number_of}
+use Rattle.gbus.specs.Endings.{status_of}
 use Rattle.gbus.specs.Program.{LineJob, lines_output, lines_text}
 use Rattle.gbus.specs.Runs.{IsFrontOfOutput, LinesEnd, ReadsTo, StopsAs}
 use Rattle.gbus.specs.Sessions.{Begins, IsBehind, ending_of, lines_taken}
 use Rattle.gbus.specs.declared.line_worker.LineWorker.{LineWorker}
 use Rattle.gbus.specs.declared.session.Session.{Session}
+use Rattle.gbus.specs.declared.status.RunStop.{RunStop}
 
 -- This text is what is written of the earlier lines and a front of what is written of this line,
 -- but not all. At most 4,096 bytes behind it were read.
@@ -75,16 +77,17 @@ pub record IsLeft (x : Session) (j : LineJob) (left left_after taken after : Opt
 
 -- By cases on the answer: it goes on, or is to end.
 abbrev pub TurnsOut : LineWorker → LineJob → (left left_after taken after : Option (List ℕ))
-    → Option Status → Type 0
+    → Option (Result Status RunStop) → Type 0
 TurnsOut x j left left_after taken after None = Stage x j left left_after taken after
-TurnsOut x j left left_after taken after (Some s) = IsAtLast x j left left_after taken after s
+TurnsOut x j left left_after taken after (Some e) =
+    IsAtLast x j left left_after taken after (status_of e)
 
 -- By cases on the answer: it goes on, or ended.
 abbrev pub WritesOn : {A : Type 0} → LineWorker → LineJob
-    → (left left_after taken after : Option (List ℕ)) → Result A Status → Type 0
+    → (left left_after taken after : Option (List ℕ)) → Result A (Result Status RunStop) → Type 0
 WritesOn x j left left_after taken after (Ok y) = Stage x j left left_after taken after
-WritesOn x j left left_after taken after (Err s) =
-    LinesEnd j left left_after taken after s × IsFrontOfOutput j left taken after
+WritesOn x j left left_after taken after (Err e) =
+    LinesEnd j left left_after taken after (status_of e) × IsFrontOfOutput j left taken after
 
 -- how it ends where a write stopped
 abbrev pub fault_status : WriteStop → Status

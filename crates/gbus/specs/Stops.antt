@@ -1,7 +1,8 @@
--- Want of memory.
-use Rattle.gbus.specs.declared.input.ReadStop.{ReadStop}
-use Rattle.gbus.specs.declared.input.ReadStop.TheVariants as stop
+-- Stops that are no fault of the source.
+use Rattle.gbus.specs.declared.input.InputStop.{InputStop}
+use Rattle.gbus.specs.declared.input.InputStop.TheVariants as stop
 
-abbrev pub IsMemoryStop : ReadStop → Type 0
-IsMemoryStop (stop.Memory refused) = Unit {0}
-IsMemoryStop stop.Failed = ⊥
+abbrev pub IsNoFault : InputStop → Type 0
+IsNoFault (stop.Memory refused) = Unit {0}
+IsNoFault stop.Spent = Unit {0}
+IsNoFault stop.Failed = ⊥

@@ -8,7 +8,7 @@ ghost use Rattle.gbus.specs.Program.{IsVerdict, reads, whole_text, whole_verdict
 ghost use Rattle.gbus.specs.Runs.{FailsAs, IsAnswerOf, StopsAtLimit};
 
 use crate::drive::drive;
-use crate::input::{Input, ReadStop, read_all};
+use crate::input::{Input, InputStop, read_all};
 use crate::manifests::{checked, compiled, decompiled};
 use crate::share::share_input;
 use crate::words::{Task, WholeJob};
@@ -58,7 +58,7 @@ pub fn answer_for<R: Threads + Sync, S: Source, G: Gate>(
     task: Task,
     source: &mut S,
     gate: &G,
-) -> Result<Answer, ReadStop>
+) -> Result<Answer, InputStop>
     requires { task_seed task ≤ 2147483647 }
     ensures answer { IfOk result (IsAnswerOf (task_seen task) (S.left source.old)) }
     ensures verdict { IfOk result (λ a. IsVerdict a.status) }

@@ -1,6 +1,6 @@
 //! Runs of which each read fails in turn, and then each write.
 
-use crate::plain::run_plain;
+use crate::plain_run::run_plain;
 use crate::run::run;
 use crate::tests::{bytes, only};
 use gb_base::{FreeGate, MemSink, MemSource, PlainSink, PlainSource, Status};

@@ -1,11 +1,12 @@
 //! Reads a whole input.
 
-ghost use Rattle.std.specs.Prelude.{◌≤◌, length, IfOk, IfSome};
+ghost use Rattle.std.specs.Prelude.{◌≡◌, ◌≤◌, ◌++◌, length, IfOk, IfSome, OnOk};
 ghost use Rattle.gbus.specs.Reading.{IsRead, ReadsAll, kept_of};
 ghost use Rattle.gbus.specs.Runs.{StopsAtLimit};
 
 use gb_base::{Failed, OutOfMemory, Source};
-use std::alloc::{AllocError, Global};
+use gb_share::ShareStop;
+use std::alloc::Global;
 
 /// How many bytes an input may have.
 const LONGEST_INPUT: usize = 1_048_576;
@@ -22,50 +23,62 @@ pub enum Input {
     TooLong(Vec<u8>),
 }
 
-/// Why an input isn't read.
+/// Why an input isn't answered.
 #[derive(Clone, Copy, Debug, PartialEq, Eq)]
-pub enum ReadStop {
+pub enum InputStop {
     /// The source failed.
     Failed,
+    /// `share` used up a history, or the parts of a pass.
+    Spent,
     /// No memory was found.
     Memory(OutOfMemory),
 }
 
-impl From<Failed> for ReadStop {
+impl From<Failed> for InputStop {
     ghost use Rattle.std.specs.Prelude.{◌≡◌};
-    ghost use Rattle.gbus.specs.declared.input.ReadStop.TheVariants as stop;
+    ghost use Rattle.gbus.specs.declared.input.InputStop.TheVariants as stop;
 
     ghost from_gives = { λ _ e. e ≡ stop.Failed };
 
-    fn from(_failed: Failed) -> ReadStop {
-        ReadStop::Failed
+    fn from(_failed: Failed) -> InputStop {
+        InputStop::Failed
     }
 }
 
-impl From<AllocError> for ReadStop {
-    ghost use Rattle.std.specs.Prelude.{◌≡◌};
-    ghost use Rattle.gbus.specs.Stops.{IsMemoryStop};
+impl From<ShareStop> for InputStop {
+    ghost use Rattle.gbus.specs.Stops.{IsNoFault};
 
-    ghost from_gives = { λ _ e. IsMemoryStop e };
+    ghost from_gives = { λ _ e. IsNoFault e };
 
-    fn from(_refused: AllocError) -> ReadStop {
-        ReadStop::Memory(OutOfMemory)
+    fn from(stop: ShareStop) -> InputStop {
+        match stop {
+            ShareStop::Spent => InputStop::Spent,
+            ShareStop::Memory(refused) => InputStop::Memory(refused),
+        }
     }
 }
 
-impl From<OutOfMemory> for ReadStop {
+impl From<OutOfMemory> for InputStop {
     ghost use Rattle.std.specs.Prelude.{◌≡◌};
-    ghost use Rattle.gbus.specs.declared.input.ReadStop.TheVariants as stop;
+    ghost use Rattle.gbus.specs.declared.input.InputStop.TheVariants as stop;
 
     ghost from_gives = { λ refused e. e ≡ stop.Memory refused };
 
-    fn from(refused: OutOfMemory) -> ReadStop {
-        ReadStop::Memory(refused)
+    fn from(refused: OutOfMemory) -> InputStop {
+        InputStop::Memory(refused)
     }
 }
 
+/// Adds bytes at the end.
+fn add(bytes: &mut Vec<u8>, more: &[u8]) -> Result<(), OutOfMemory>
+    ensures ok { OnOk result (bytes.new.items ≡ bytes.old.items ++ more.now) }
+{
+    bytes.extend_from_slice(more)?;
+    Ok(())
+}
+
 /// Reads to the end of the source, or until more bytes came than an input may have.
-pub fn read_all<S: Source>(alloc: Global, source: &mut S) -> Result<Input, ReadStop>
+pub fn read_all<S: Source>(alloc: Global, source: &mut S) -> Result<Input, InputStop>
     ensures bytes { ReadsAll (S.left source.old) (S.left source.new) (S.faults source.old)
         (S.faults source.new) result }
     ensures later { S.faults source.old ≤ S.faults source.new }
@@ -80,7 +93,7 @@ pub fn read_all<S: Source>(alloc: Global, source: &mut S) -> Result<Input, ReadS
         if n == 0 {
             return Ok(Input::Whole(bytes));
         }
-        bytes.extend_from_slice(&piece[..n])?;
+        add(&mut bytes, &piece[..n])?;
     }
     bytes.truncate(LONGEST_INPUT);
     Ok(Input::TooLong(bytes))

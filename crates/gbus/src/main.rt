@@ -16,12 +16,13 @@ mod input;
 mod line_worker;
 mod manifests;
 mod output;
-mod plain;
+mod plain_run;
 mod run;
 mod session;
 mod share;
 #[cfg(test)]
 mod spent_tests;
+mod status;
 #[cfg(test)]
 mod tests;
 mod words;
@@ -55,8 +56,8 @@ fn main(rt: HostRuntime) -> ExitCode {
 /// The words behind the program's name. Words that aren't UTF-8 are none of the program's.
 fn words_of(rt: &HostRuntime) -> Result<Vec<String>, Status> {
     let args = env::args(rt).map_err(|e| match e.kind() {
-        ErrorKind::InvalidData => Status::Usage,
-        _ => Status::NoMemory,
+        ErrorKind::OutOfMemory => Status::NoMemory,
+        _ => Status::Usage,
     })?;
     let mut words = Vec::new(rt.alloc());
     for word in args.skip(1) {

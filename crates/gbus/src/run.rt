@@ -9,9 +9,10 @@ ghost use Rattle.gbus.specs.Runs.{IfByLine, IsAnswered, IsComplete, IsCutOff, Is
 ghost use Rattle.gbus.specs.Runs.{IsWithin, KeepsHeadline, StopsAs, StopsAtLimit};
 
 use crate::answer::answer_for;
-use crate::input::ReadStop;
+use crate::input::InputStop;
 use crate::line_worker::work_by_line;
 use crate::output::write_all;
+use crate::status::{RunStop, status_of};
 use crate::words::{Job, job_of};
 use gb_base::{Gate, Sink, Source, Status, WriteStop};
 use std::alloc::Global;
@@ -97,17 +98,18 @@ pub fn run<R: Threads + Sync, S: Source, K: Sink, G: Gate>(
         return Status::Usage;
     };
     let task = match job {
-        Job::ByLine(job) => return work_by_line(alloc, job, source, sink),
+        Job::ByLine(job) => return status_of(work_by_line(alloc, job, source, sink)),
         Job::Task(task) => task,
     };
     let answer = match answer_for(rt, alloc, task, source, gate) {
         Ok(answer) => answer,
-        Err(ReadStop::Failed) => return Status::ReadFault,
-        Err(ReadStop::Memory(_)) => return Status::NoMemory,
+        Err(InputStop::Failed) => return Status::ReadFault,
+        Err(InputStop::Spent) => return status_of(Err(RunStop::Spent)),
+        Err(InputStop::Memory(refused)) => return status_of(Err(RunStop::Memory(refused))),
     };
     match write_all(sink, answer.output.items()) {
         Ok(()) => answer.status,
         Err(WriteStop::Failed) => Status::WriteFault,
-        Err(WriteStop::Memory(_)) => Status::NoMemory,
+        Err(WriteStop::Memory(refused)) => status_of(Err(RunStop::Memory(refused))),
     }
 }

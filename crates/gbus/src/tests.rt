@@ -1,7 +1,7 @@
 //! Runs of the program over a source and a sink in memory, and runs of a system that are too long
 //! for a script or that no report shows.
 
-use crate::plain::run_plain;
+use crate::plain_run::run_plain;
 use crate::run::run;
 use gb_base::{
     Bytes, Entries, Entry, FreeGate, MemSink, MemSource, Numbers, Outcome, PlainSink, PlainSource,

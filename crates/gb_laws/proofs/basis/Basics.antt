@@ -29,7 +29,7 @@ use Rattle.gb_laws.proofs.basis.Loosening.{held-at}
 use Rattle.gb_laws.proofs.basis.Loosening.{without-none}
 use Rattle.gb_laws.proofs.points.PointParts.{Basis, Hand, IsStill, Point, Wires, loose_held}
 use Rattle.gb_laws.proofs.points.PointParts.{resting}
-use Rattle.gb_laws.proofs.points.Points.{Change, Law, acts_asked, acts_left, acts_opened, acts_shut}
+use Rattle.gb_laws.proofs.points.Points.{Change, Law, acts_asked, acts_left, acts_made, acts_shut}
 use Rattle.gb_laws.proofs.points.Points.{answers, asks, binds, changed, drops, forgets, frees}
 use Rattle.gb_laws.proofs.points.Points.{gives_up}
 use Rattle.gb_laws.proofs.points.Points.{holds, injects, names, replies, takes, takes_held, unwires}
@@ -159,10 +159,10 @@ basis-kept a (acts_shut k rest free is cause) h =
 basis-kept a (acts_left k rest free untouched is) h =
     free-basis free (detached-keeps (map loose_held a.state.held) k a.state.bus
     (free-bus free h)) h.names h.drains
-basis-kept {m} a (acts_opened w q rest free is) h =
+basis-kept {m} a (acts_made w q rest free is) h =
     free-basis free (attached-keeps (map loose_held a.state.held) a.state.bus w.ap w.intf w.cport
     w.protocol (free-bus free h)) h.names
-    (draining-kept {m = m} a (acts_opened w q rest free is) h.drains)
+    (draining-kept {m = m} a (acts_made w q rest free is) h.drains)
 basis-kept {m} a (acts_asked q n rest is) h =
     let r = awaited-rest q.purpose n in basis-same a _ refl r.bus r.held r.names
     (draining-kept {m = m} a (acts_asked q n rest is) h.drains) h

@@ -4,7 +4,7 @@ use Rattle.std.proofs.Common.{refl, subst, sym, true, ℕ, ⊎_elim, ◌∙◌, 
 use Rattle.std.specs.Prelude.{Err, Ok, Result, is_some, option_map, ◌==◌}
 use Rattle.gb_base.specs.declared.end.Side.{Side}
 use Rattle.gb_base.specs.declared.end.Side.TheVariants as side
-use Rattle.gb_base.specs.declared.fault.RawFault.{RawFault}
+use Rattle.gb_base.specs.declared.reasons.RawFault.{RawFault}
 use Rattle.gb_base.specs.declared.name.Name.{Name}
 use Rattle.gb_formats.specs.{Message.Message, Wire.raw_message}
 use Rattle.gb_machine.specs.Bus.{Ask, Bus, Connection, Item, Raw, RawReply, Reply, Request}

@@ -2,7 +2,7 @@
 use Rattle.std.proofs.Common.{List, Option, Some, ap, arith, false, inl, inr, length, subst, sym}
 use Rattle.std.proofs.Common.{true, ℕ, ⊎_elim, [], ◌∙◌, ◌∷◌, ◌≡◌, ◌≤◌, ◌⊎◌}
 use Rattle.std.specs.Prelude.{Result}
-use Rattle.gb_base.specs.declared.peers.Link.{Link}
+use Rattle.gb_base.specs.declared.interface.Link.{Link}
 use Rattle.gb_base.specs.declared.end.Side.TheVariants as side
 use Rattle.gb_formats.specs.{Records.PayloadFault, SvcRecords.SvcAsk, SvcRecords.read_svc_ask}
 use Rattle.gb_machine.specs.Bus.{Bus, Request, next_number, request_of}
@@ -48,7 +48,7 @@ pub record IsPrepared (h : Host) (pairs : List (ℕ × ℕ)) (q : Asking) : Type
 abbrev pub IsReady : Host → List (ℕ × ℕ) → Act → Type 0
 IsReady h pairs (Act.Ask q) = (is_creating q.purpose.step ≡ true → IsPrepared h pairs q)
     × (is_creating q.purpose.step ≡ false → IsAimed h q)
-IsReady h pairs (Act.Open w q) = IsMade w q
+IsReady h pairs (Act.Make w q) = IsMade w q
 IsReady h pairs _ = Unit {0}
 
 -- those that are pending are
@@ -63,7 +63,7 @@ orderly-ready h pairs (Act.Ask q ∷ acts) all = (
   (λ is. absurd (not-both (is_creating q.purpose.step) is all.0.0), λ e. all.0.1),
   orderly-ready h pairs acts all.1,
 )
-orderly-ready h pairs (Act.Open w q ∷ acts) all = (all.0, orderly-ready h pairs acts all.1)
+orderly-ready h pairs (Act.Make w q ∷ acts) all = (all.0, orderly-ready h pairs acts all.1)
 orderly-ready h pairs (Act.Shut k ∷ acts) all = (tt, orderly-ready h pairs acts all.1)
 orderly-ready h pairs (Act.Leave k ∷ acts) all = (tt, orderly-ready h pairs acts all.1)
 orderly-ready h pairs (Act.Tell e ∷ acts) all = (tt, orderly-ready h pairs acts all.1)

@@ -2,7 +2,7 @@
 use Rattle.std.proofs.Common.{Bool, None, Option, Some, ap, arith, cond, false, inl, inr, refl}
 use Rattle.std.proofs.Common.{subst, sym, true, ℕ, ⊎_elim, [], ◌++◌, ◌∙◌, ◌∷◌, ◌≡◌}
 use Rattle.gb_base.specs.declared.end.Side.TheVariants as side
-use Rattle.gb_base.specs.declared.peers.Link.{Link}
+use Rattle.gb_base.specs.declared.interface.Link.{Link}
 use Rattle.gb_base.specs.declared.steps.SequenceStep.{SequenceStep}
 use Rattle.gb_machine.specs.Host.{Host, is_link, link_at, with_given, with_link}
 use Rattle.gb_machine.specs.{Bus.Bus, Bus.next_number, Failures.unsent, HostActs.made_for}
@@ -23,7 +23,7 @@ use Rattle.gb_laws.proofs.links.LinkSources.{LinksFrom, from-turn, from-unsent}
 use Rattle.gb_laws.proofs.links.Links.{ArePending, IsFree, IsMaking, SameLink, connection, control}
 use Rattle.gb_laws.proofs.points.Points.{Change, IsAskedBy, IsAsking, IsFarAsking, IsPlain}
 use Rattle.gb_laws.proofs.points.Points.{acts_asked}
-use Rattle.gb_laws.proofs.points.Points.{acts_failed, acts_left, acts_opened, acts_shut, acts_told}
+use Rattle.gb_laws.proofs.points.Points.{acts_failed, acts_left, acts_made, acts_shut, acts_told}
 use Rattle.gb_laws.proofs.points.Points.{asking}
 use Rattle.gb_laws.proofs.points.Points.{asks, awaited_by, by_far, by_host, by_loader, by_module}
 use Rattle.gb_laws.proofs.points.Points.{by_svc}
@@ -117,7 +117,7 @@ creates-kept m a (acts_left k rest free untouched is) links r f then h = record 
   fit = h.fit;
   ready = (subst (AreReady a.state.host a.state.past.made_for) is h.ready).1;
 }
-creates-kept m a (acts_opened w q rest free is) links r f then h = record {
+creates-kept m a (acts_made w q rest free is) links r f then h = record {
   fit = record {
     own = h.fit.own;
     ends = λ n l x live p made. ⊎_elim (λ o. h.fit.ends n l x o p made)
@@ -130,9 +130,9 @@ creates-kept m a (acts_opened w q rest free is) links r f then h = record {
       λ s. record {
         link = new;
         found = subst (λ c. link_at q.purpose.intf c
-            (changed m a (acts_opened w q rest free is)).state.host ≡ Some new) (sym made.cport)
+            (changed m a (acts_made w q rest free is)).state.host ≡ Some new) (sym made.cport)
             (subst (λ i. link_at i w.cport
-            (changed m a (acts_opened w q rest free is)).state.host ≡ Some new) (sym made.intf)
+            (changed m a (acts_made w q rest free is)).state.host ≡ Some new) (sym made.intf)
             (found-at (a.state.host.links ++ new ∷ []) new then.host.links.rise
             (in-behind new a.state.host.links (new ∷ []) (inl refl))));
         none = λ n p. fresh n (next_connection a.state.bus) p refl;
@@ -141,7 +141,7 @@ creates-kept m a (acts_opened w q rest free is) links r f then h = record {
       },
       λ e. absurd (not-both (is_creating q.purpose.step) (making made.step) e),
     ),
-    subst (AreReady (changed m a (acts_opened w q rest free is)).state.host
+    subst (AreReady (changed m a (acts_made w q rest free is)).state.host
         a.state.past.made_for) (sym (subst (ArePending a.state.host) is links.pending).0.1) tt,
   );
 }

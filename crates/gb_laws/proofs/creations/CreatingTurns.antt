@@ -21,7 +21,7 @@ IsAimed h q = q.payload ≡ payload_of q.purpose.step
 -- an act asks for no new connection and of that of its purpose, or makes the one that it asks for
 abbrev pub IsOrderly : Host → Act → Type 0
 IsOrderly h (Act.Ask q) = (is_creating q.purpose.step ≡ false) × IsAimed h q
-IsOrderly h (Act.Open w q) = IsMade w q
+IsOrderly h (Act.Make w q) = IsMade w q
 IsOrderly h _ = Unit {0}
 
 abbrev pub AreOrderly : Host → List Act → Type 0
@@ -52,7 +52,7 @@ end-orderly o (HostEnd.enumerates p bytes) h last = (tt, tt)
 
 none-orderly : (h : Host) (x : Act) → AsksNone x → IsOrderly h x
 none-orderly h (Act.Ask q) none = absurd none
-none-orderly h (Act.Open w q) none = absurd none
+none-orderly h (Act.Make w q) none = absurd none
 none-orderly h _ none = tt
 
 -- Each turn is orderly.

@@ -7,7 +7,7 @@ use Rattle.std.specs.Prelude.{Ok, nat_lt, ◌==◌}
 use Rattle.gb_base.specs.declared.end.End.TheVariants as end
 use Rattle.gb_base.specs.declared.end.Side.TheVariants as side
 use Rattle.gb_base.specs.declared.event.Event.TheVariants as event
-use Rattle.gb_base.specs.declared.peers.Link.{Link}
+use Rattle.gb_base.specs.declared.interface.Link.{Link}
 use Rattle.gb_formats.specs.SvcRecords.{SvcAsk, read_svc_ask}
 use Rattle.gb_machine.specs.Bus.{Ask, Bus, Connection, Request, connection_of, end_of, has_number}
 use Rattle.gb_machine.specs.Bus.{request_of}

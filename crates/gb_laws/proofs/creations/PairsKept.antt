@@ -1,7 +1,7 @@
 -- What is known of remembered requests is kept by each single change.
 use Rattle.std.proofs.Common.{Bool, None, Option, Some, ap, arith, cond, false, refl, subst, sym}
 use Rattle.std.proofs.Common.{true, ℕ, ⊎_elim, ◌∙◌, ◌≡◌}
-use Rattle.gb_base.specs.declared.peers.Link.{Link}
+use Rattle.gb_base.specs.declared.interface.Link.{Link}
 use Rattle.gb_machine.specs.HostActs.{host_draft, made_for, with_awaited}
 use Rattle.gb_machine.specs.Sending.{Draft, requested, sent}
 use Rattle.gb_machine.specs.{Bus.next_number, Failures.unsent, Host.link_at, Host.with_given}
@@ -15,7 +15,7 @@ use Rattle.gb_invariants.proofs.HostChanges.{turn_of}
 use Rattle.gb_laws.proofs.creations.Pairs.{IsAskedAs, PairsFit, asked-more, come-from, come-link}
 use Rattle.gb_laws.proofs.creations.Pairs.{come-same}
 use Rattle.gb_laws.proofs.creations.Pairs.{come-served, pairs-on}
-use Rattle.gb_laws.proofs.points.Points.{Change, IsAskedBy, acts_asked, acts_failed, acts_opened}
+use Rattle.gb_laws.proofs.points.Points.{Change, IsAskedBy, acts_asked, acts_failed, acts_made}
 use Rattle.gb_laws.proofs.points.Points.{asks, gives}
 use Rattle.gb_laws.proofs.points.Points.{awaited_by, by_far, by_host, by_loader, changed, names}
 use Rattle.gb_laws.proofs.points.Points.{serves}
@@ -75,7 +75,7 @@ pairs-kept m a (turns e free untouched none cause) links r f =
     pairs-on a.state.bus a.state.bus a.state.host (turn_of e a.state.host).host
     a.state.past.made_for a.asked a.asked (λ n x made. made) (omega arith)
     (come-from a.state.host (turn_of e a.state.host).host (from-turn e a.state.host)) f.asks f
-pairs-kept m a (acts_opened w q rest free is) links r f = record {
+pairs-kept m a (acts_made w q rest free is) links r f = record {
   made = λ n k i. let x = f.made n k i in record {
     request = x.request;
     made = x.made;
@@ -91,7 +91,7 @@ pairs-kept m a (acts_opened w q rest free is) links r f = record {
   bound = λ l live v e. ⊎_elim (λ o. f.bound l o v e)
       (λ g. absurd (none-some (sym (ap (λ (y : Link). y.awaits) g) ∙ e)))
       (in-pushed l a.state.host.links (new_link (next_connection a.state.bus) w) live);
-  asks = λ p n e. asked-more p n a.state.bus (changed m a (acts_opened w q rest free is)).state.bus
+  asks = λ p n e. asked-more p n a.state.bus (changed m a (acts_made w q rest free is)).state.bus
       a.state.past.made_for (λ k x made. made) (f.asks p n e);
 }
 pairs-kept m a (acts_asked q n rest is) links r f =

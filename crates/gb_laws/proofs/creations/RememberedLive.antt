@@ -6,7 +6,7 @@ use Rattle.std.proofs.Common.{suc, zero, ◌+◌, ◌<◌, ◌∙◌, ◌∷◌,
 use Rattle.std.specs.Prelude.{is_some}
 use Rattle.std.specs.List.{slice_get}
 use Rattle.gb_base.specs.declared.entry.Entry.{Entry}
-use Rattle.gb_base.specs.declared.peers.Link.{Link}
+use Rattle.gb_base.specs.declared.interface.Link.{Link}
 use Rattle.gb_machine.specs.Bus.{Bus, Request, connection_of}
 use Rattle.gb_machine.specs.Host.{Host, is_link, link_at}
 use Rattle.gb_machine.specs.Runs.{IsMoment, Moment, after, told_at}
@@ -26,7 +26,7 @@ use Rattle.gb_laws.proofs.links.LinkLeaves.{WhyLeft, closed, removed, why-left}
 use Rattle.gb_laws.proofs.links.LinkRuns.{LinkedTo, linked-over, linked-throughout, start-absent}
 use Rattle.gb_laws.proofs.links.Links.{ArePending, HostFits, IsFollowed, leaves, stays}
 use Rattle.gb_laws.proofs.points.PointParts.{Basis, IsCaused, Point}
-use Rattle.gb_laws.proofs.points.Points.{Change, IsAskedBy, IsOver, Law, acts_asked, acts_opened}
+use Rattle.gb_laws.proofs.points.Points.{Change, IsAskedBy, IsOver, Law, acts_asked, acts_made}
 use Rattle.gb_laws.proofs.points.Points.{asks}
 use Rattle.gb_laws.proofs.points.Points.{awaited_by, by_far, by_host, by_loader, changed, names}
 use Rattle.gb_laws.proofs.points.Points.{turns}
@@ -144,7 +144,7 @@ since-kept m absent a (turns e free untouched none cause) basis links r h = reco
         w.1,
   )) (h.new n k i);
 }
-since-kept m absent a (acts_opened w q rest free is) basis links r h =
+since-kept m absent a (acts_made w q rest free is) basis links r h =
     since-stay m a refl refl refl (λ l i. (
       l,
       in-front l a.state.host.links (new_link (next_connection a.state.bus) w ∷ []) i,

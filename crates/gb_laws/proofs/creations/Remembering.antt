@@ -3,7 +3,7 @@ use Rattle.std.proofs.Common.{Bool, List, None, Option, Some, ap, arith, cond, f
 use Rattle.std.proofs.Common.{length-append, refl, subst, sym, true, ℕ, ⊎_elim, [], ◌++◌, ◌+◌, ◌∙◌}
 use Rattle.std.proofs.Common.{◌∷◌, ◌≡◌, ◌≤◌}
 use Rattle.gb_base.specs.declared.entry.Entry.{Entry}
-use Rattle.gb_base.specs.declared.peers.Link.{Link}
+use Rattle.gb_base.specs.declared.interface.Link.{Link}
 use Rattle.gb_base.specs.declared.steps.Purpose.{Purpose}
 use Rattle.gb_machine.specs.{Bus.Request, Host.link_at, HostActs.made_for, HostActs.with_awaited}
 use Rattle.gb_machine.specs.{LawsHotPlug.NoneForgotten, LawsHotPlug.RememberedForOne, Members.IsIn}
@@ -142,10 +142,10 @@ remembers-kept m a (acts_asked q n rest is) h =
     by (is_for_connection q.purpose.step)
     (link_at q.purpose.intf q.purpose.cport (awaits q.purpose n a.state.host))
   where
-    Kept : State → Type 0
-    Kept s = Remembers (length s.bus.requests) s.past.made_for None
+    StillRemembers : State → Type 0
+    StillRemembers s = Remembers (length s.bus.requests) s.past.made_for None
 
-    by : (t : Bool) (o : Option Link) → Kept (cond t
+    by : (t : Bool) (o : Option Link) → StillRemembers (cond t
         (made_for n o (record a.state { host = awaits q.purpose n a.state.host }))
         (record a.state { host = awaits q.purpose n a.state.host }))
     by true None = remembers-rest h

@@ -2,7 +2,7 @@
 -- connection behind it was there before with the same credits, or is new and has the most.
 use Rattle.std.proofs.Common.{List, None, Option, Some, ap, arith, refl, subst, sym, ℕ, ⊎_elim, ◌+◌}
 use Rattle.std.proofs.Common.{◌<◌, ◌∙◌, ◌≡◌, ◌≤◌}
-use Rattle.gb_base.specs.declared.peers.Link.{Link}
+use Rattle.gb_base.specs.declared.interface.Link.{Link}
 use Rattle.gb_base.specs.declared.steps.SequenceStep.{SequenceStep}
 use Rattle.gb_formats.specs.UartDevice.{most_credits}
 use Rattle.gb_machine.specs.{Bus.Bus, Host.Host, Host.with_new_link, HostActs.with_awaited}
@@ -13,7 +13,7 @@ use Rattle.gb_laws.proofs.links.LinkSources.{CameFrom, LinksFrom, from-links, fr
 use Rattle.gb_laws.proofs.links.LinkSources.{from-unsent}
 use Rattle.gb_laws.proofs.links.LinkSources.{from-waiting}
 use Rattle.gb_laws.proofs.points.Points.{Change, IsBridge, Law, acts_asked, acts_failed}
-use Rattle.gb_laws.proofs.points.Points.{acts_opened}
+use Rattle.gb_laws.proofs.points.Points.{acts_made}
 use Rattle.gb_laws.proofs.points.Points.{changed, gives, serves, spends, turns, upon}
 use Rattle.gb_laws.proofs.{points.Awaited.awaited-rest, basis.Basics.basis}
 use Rattle.gb_laws.proofs.{links.LinkActs.awaited-host}
@@ -75,7 +75,7 @@ pub credits-kept : (m : Moment) → IsCreditless m → (a : Point) (x : Change m
     → CreditsAt m (changed m a x).state.bus.made (changed m a x).state.host
 credits-kept m less a (turns e free untouched none cause) h =
     credits-from m (from-turn e a.state.host) h
-credits-kept m less a (acts_opened w q rest free is) h =
+credits-kept m less a (acts_made w q rest free is) h =
     credits-opened m a.state.bus w h
 credits-kept m less a (acts_asked q n rest is) h =
     subst (λ (b : Bus). CreditsAt m b.made (with_awaited q.purpose n a.state).host)
@@ -102,7 +102,7 @@ credits_law m less = upon (basis m) (λ a. CreditsAt m a.state.bus.made a.state.
 
 pub made-kept : (m : Moment) (a : Point) (x : Change m a) → m.before.bus.made ≤ a.state.bus.made
     → m.before.bus.made ≤ (changed m a x).state.bus.made
-made-kept m a (acts_opened w q rest free is) h = omega (arith, h)
+made-kept m a (acts_made w q rest free is) h = omega (arith, h)
 made-kept m a (acts_asked q n rest is) h =
     subst (λ (b : Bus). m.before.bus.made ≤ b.made) (sym (awaited-rest q.purpose n).bus) h
 made-kept m a _ h = h

@@ -4,17 +4,17 @@ use Rattle.std.proofs.Common.{refl, subst, sym, true, ℕ, ⊎_elim, [], ◌++�
 use Rattle.std.proofs.Common.{◌≤◌, ◌⊎◌}
 use Rattle.std.proofs.lemmas.Bool.Decides.{nat_tests}
 use Rattle.std.specs.List.{find}
-use Rattle.std.specs.Prelude.{Err, Ok, is_none, nat_le, not, ◌&&◌, ◌-◌, ◌==◌, ◌||◌}
+use Rattle.std.specs.Prelude.{is_none, nat_le, ◌&&◌, ◌-◌, ◌==◌, ◌||◌}
 use Rattle.gb_base.specs.declared.refusal.Refusal.TheVariants as why
 use Rattle.gb_base.specs.declared.bridge.BridgeAsk.{BridgeAsk}
 use Rattle.gb_base.specs.declared.end.Side.TheVariants as side
 use Rattle.gb_base.specs.declared.event.Event.TheVariants as event
 use Rattle.gb_base.specs.declared.name.Name.{Name}
-use Rattle.gb_base.specs.declared.peers.Link.{Link}
-use Rattle.gb_formats.specs.Bridges.{TooLarge, Unsupported, ask_protocol, ask_request}
-use Rattle.gb_formats.specs.Bridges.{bridge_answer, credits_taken, is_too_large}
+use Rattle.gb_base.specs.declared.interface.Link.{Link}
+use Rattle.gb_formats.specs.Bridges.{ask_request, bridge_answer, credits_taken}
 use Rattle.gb_formats.specs.{Grammar.default_timeout, UartDevice.credits_spent}
 use Rattle.gb_formats.specs.{UartDevice.most_credits}
+use Rattle.gb_machine.proofs.BridgeAnswers.{answered-by}
 use Rattle.gb_machine.proofs.{Conditions.AreUnmet, Conditions.free, Opened.machine_opened}
 use Rattle.gb_machine.specs.Bus.{Connection, connection_of, next_number}
 use Rattle.gb_machine.specs.Host.{Host, is_link, link_at, with_link}
@@ -106,17 +106,6 @@ pub record IsSpent (name : Name) (i c : ℕ) (what : BridgeAsk) (s : State) : Ty
   pub host : (bridges name i c what s).state.host
       ≡ with_link link.intf link.cport (spent what) s.host
   pub enough : credits_taken what ≤ link.credits
-
-not-false : (t : Bool) → not t ≡ false → t ≡ true
-not-false true e = refl
-not-false false e = absurd cc
-
-pub answered-by : (protocol : ℕ) (what : BridgeAsk) → not (ask_protocol what == protocol) ≡ false
-    → is_too_large what ≡ false → bridge_answer protocol what ≡ Ok (ask_request what)
-answered-by protocol what supported small =
-    ap (λ t. cond t (cond (is_too_large what) (Err TooLarge) (Ok (ask_request what)))
-    (Err Unsupported)) (not-false (ask_protocol what == protocol) supported)
-    ∙ ap (λ t. cond t (Err TooLarge) (Ok (ask_request what))) small
 
 spends-enough : (credits n : ℕ) → is_none (credits_spent credits n) ≡ false → n ≤ credits
 spends-enough credits n e = by (nat_le n credits) refl e

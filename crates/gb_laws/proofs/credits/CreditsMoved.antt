@@ -7,7 +7,7 @@ use Rattle.gb_base.specs.declared.end.{End.End}
 use Rattle.gb_base.specs.declared.end.End.TheVariants as end
 use Rattle.gb_base.specs.declared.event.Event.{Event}
 use Rattle.gb_base.specs.declared.event.Event.TheVariants as event
-use Rattle.gb_base.specs.declared.peers.Link.{Link}
+use Rattle.gb_base.specs.declared.interface.Link.{Link}
 use Rattle.gb_base.specs.declared.refusal.Refusal.{Refusal}
 use Rattle.gb_formats.specs.Records.{PayloadFault, read_far_ask, read_table, row_of}
 use Rattle.gb_formats.specs.UartRecords.{UartAsk, read_receive, read_send, read_uart_ask}

@@ -8,9 +8,9 @@ use Rattle.std.specs.Prelude.{Err, Ok, Result, nat_le, option_map, ◌==◌, ◌
 use Rattle.gb_base.specs.declared.end.Side.TheVariants as side
 use Rattle.gb_base.specs.declared.entry.Entry.{Entry}
 use Rattle.gb_base.specs.declared.entry.Entry.TheVariants as entry
-use Rattle.gb_base.specs.declared.fault.RawFault.{RawFault}
+use Rattle.gb_base.specs.declared.reasons.RawFault.{RawFault}
 use Rattle.gb_base.specs.declared.host_event.HostEvent.{HostEvent}
-use Rattle.gb_base.specs.declared.peers.Link.{Link}
+use Rattle.gb_base.specs.declared.interface.Link.{Link}
 use Rattle.gb_formats.specs.{Message.Message, Records.PayloadFault, UartDevice.credits_added}
 use Rattle.gb_formats.specs.{UartDevice.most_credits, UartRecords.UartAsk}
 use Rattle.gb_formats.specs.{UartRecords.read_uart_ask_of_module, Wire.raw_message}

@@ -25,7 +25,7 @@ use Rattle.gb_invariants.proofs.{ItemChanges.first-in, Numbers.found-by_number, 
 use Rattle.gb_laws.proofs.points.PointParts.{AreQuiet, Hand, IsGivenUpFor, Point, asked_told}
 use Rattle.gb_laws.proofs.points.PointParts.{is_quiet}
 use Rattle.gb_laws.proofs.points.PointParts.{loose_held, sent_told}
-use Rattle.gb_laws.proofs.points.Points.{Answers, Change, Law, Says, acts_failed, acts_opened}
+use Rattle.gb_laws.proofs.points.Points.{Answers, Change, Law, Says, acts_failed, acts_made}
 use Rattle.gb_laws.proofs.points.Points.{acts_shut}
 use Rattle.gb_laws.proofs.points.Points.{acts_told, answers, asks, by_label, by_number, changed}
 use Rattle.gb_laws.proofs.points.Points.{drops}
@@ -259,8 +259,8 @@ so-far-kept m start a (acts_told e rest is quiet) h =
 so-far-kept m start a (acts_shut k rest free is cause) h =
     so-far (acts_shut k rest free is cause) _ refl
     (ended-fine m _ (open_on k side.Ap a.state.bus)) h.hand h
-so-far-kept m start a (acts_opened w q rest free is) h =
-    so-far (acts_opened w q rest free is) (_ ∷ []) refl (tt, tt) h.hand h
+so-far-kept m start a (acts_made w q rest free is) h =
+    so-far (acts_made w q rest free is) (_ ∷ []) refl (tt, tt) h.hand h
 so-far-kept m start a (acts_failed q rest is quiet) h =
     so-far (acts_failed q rest is quiet) _ refl (quiet-all-fine m _ _ quiet) h.hand h
 so-far-kept m start a x h =

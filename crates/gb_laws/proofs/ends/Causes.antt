@@ -23,12 +23,12 @@ use Rattle.gb_laws.proofs.ends.EndCauses.{quiet-all-fine}
 use Rattle.gb_laws.proofs.ends.EndCauses.{quiet-fine, sent-fine, shut-cause}
 use Rattle.gb_laws.proofs.links.LinkRuns.{LinkedTo, linked-throughout, start-absent}
 use Rattle.gb_laws.proofs.points.PointParts.{Basis, IsGivenUpFor, Point, Wired, asked_told, resting}
-use Rattle.gb_laws.proofs.points.Points.{Change, IsLive, Law, acts_failed, acts_opened, acts_shut}
+use Rattle.gb_laws.proofs.points.Points.{Change, IsLive, Law, acts_failed, acts_made, acts_shut}
 use Rattle.gb_laws.proofs.points.Points.{acts_told, answers, asks, changed, drops, gives_up}
 use Rattle.gb_laws.proofs.points.Points.{injects}
 use Rattle.gb_laws.proofs.points.Points.{names, replies, tells, unwires, upon}
 use Rattle.gb_laws.proofs.{ends.Answering.same-rest, links.LinkFrom.Linked, links.LinkLaw.link_law}
-use Rattle.gb_laws.proofs.{points.Onward.onward}
+use Rattle.gb_laws.proofs.{points.PointToPoint.stays-to}
 use Rattle.gb_laws.proofs.{runs.Runs.HoldsAtMoments, runs.Runs.at_each, points.Silent.silent-quiet}
 use Rattle.gb_laws.proofs.{steps.Steps.over-step}
 
@@ -46,7 +46,7 @@ record IsSoFar (m : Moment) (a : Point) : Type 0 where
 so-far : {m : Moment} {a : Point} (x : Change m a) (es : List Entry)
     → (changed m a x).told ≡ a.told ++ es
     → Each (IsFine m (changed m a x)) es → IsSoFar m a → IsSoFar m (changed m a x)
-so-far {m} {a} x es told fine h = let on = onward m a x in record {
+so-far {m} {a} x es told fine h = let on = stays-to m a x in record {
   new = h.new ++ es;
   told = told ∙ ap (λ l. l ++ es) h.told ∙ append_assoc m.told h.new es;
   fine = each-append (IsFine m (changed m a x)) h.new es
@@ -147,8 +147,8 @@ so-far-kept m start a (acts_shut k rest free is cause) basis links h =
     by (inl why) = ended-fine m after side.Ap k a.state.bus (λ n r made. made) why.0 why.1
     by (inr none) =
         subst (λ ns. Each (IsFine m after) (map disconnected_told ns)) (sym none) tt
-so-far-kept m start a (acts_opened w q rest free is) basis links h =
-    so-far (acts_opened w q rest free is) (_ ∷ []) refl (tt, tt) h
+so-far-kept m start a (acts_made w q rest free is) basis links h =
+    so-far (acts_made w q rest free is) (_ ∷ []) refl (tt, tt) h
 so-far-kept m start a (acts_failed q rest is quiet) basis links h =
     so-far (acts_failed q rest is quiet) _ refl
     (quiet-all-fine m (changed m a (acts_failed q rest is quiet)) _ quiet) h

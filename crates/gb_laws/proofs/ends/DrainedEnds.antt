@@ -25,7 +25,8 @@ use Rattle.gb_machine.specs.{Requests.is_given_up}
 use Rattle.gb_invariants.proofs.Awaiting.{is-open, not-both}
 use Rattle.gb_invariants.proofs.{Lists.each-weaker}
 use Rattle.gb_invariants.specs.{Facts.OutcomesFit}
-use Rattle.gb_laws.proofs.runs.Reached.{reached-step, reached-told}
+use Rattle.gb_laws.proofs.runs.OfStates.{reached-told}
+use Rattle.gb_laws.proofs.runs.Reached.{reached-step}
 use Rattle.gb_laws.proofs.tickets.TicketEnds.{end-there, ends-as_told}
 use Rattle.gb_laws.proofs.tickets.Tickets.{grows-moment, twoway-never_sent}
 use Rattle.gb_machine.specs.LawsDraining.{CameToAnEnd, ClosesUncut, ClosingLeavesNoneOpen}

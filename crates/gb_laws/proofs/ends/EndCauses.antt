@@ -7,7 +7,7 @@ use Rattle.gb_base.specs.declared.end.Side.TheVariants as side
 use Rattle.gb_base.specs.declared.entry.Entry.{Entry}
 use Rattle.gb_base.specs.declared.entry.Entry.TheVariants as entry
 use Rattle.gb_base.specs.declared.outcome.Outcome.TheVariants as outcome
-use Rattle.gb_base.specs.declared.peers.Link.{Link}
+use Rattle.gb_base.specs.declared.interface.Link.{Link}
 use Rattle.gb_machine.specs.Bus.{Bus, Connection, Request, next_number, request_of}
 use Rattle.gb_machine.specs.{Host.link_of, LawsEnds.IsDisconnect, LawsEnds.IsRemovalOf}
 use Rattle.gb_machine.specs.{Members.Each, Members.IsIn, Requests.is_of, Requests.open_on}
@@ -20,7 +20,7 @@ use Rattle.gb_laws.proofs.points.PointParts.{asked_told}
 use Rattle.gb_laws.proofs.points.PointParts.{disconnected, idle, is_quiet, removed, sent_told}
 use Rattle.gb_laws.proofs.{links.LinkLists.found-link, links.LinkRuns.LinkedTo}
 use Rattle.gb_laws.proofs.{links.Departing.departing-handled}
-use Rattle.gb_laws.proofs.{points.Onward.IsOnward}
+use Rattle.gb_laws.proofs.{points.PointToPoint.StaysTo}
 
 -- ---- what causes an end
 
@@ -55,7 +55,7 @@ IsFine m a (entry.Ended n outcome.Disconnected read) = IsDisconnected m a n
 IsFine m a _ = Unit {0}
 
 -- it stays fine
-pub fine-on : (m : Moment) (a after : Point) (e : Entry) → IsOnward a after → IsFine m a e
+pub fine-on : (m : Moment) (a after : Point) (e : Entry) → StaysTo a after → IsFine m a e
     → IsFine m after e
 fine-on m a after (entry.Ended n outcome.Cancelled read) on h = h
 fine-on m a after (entry.Ended n outcome.Timeout read) on h = record {

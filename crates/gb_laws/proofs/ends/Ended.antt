@@ -22,7 +22,7 @@ use Rattle.gb_invariants.proofs.{Outcomes.is-same, Outcomes.open_requests-same}
 use Rattle.gb_laws.proofs.basis.Basics.{basis-first, basis-kept, rested}
 use Rattle.gb_laws.proofs.points.PointParts.{AreQuiet, Basis, Point, asked_told, is_quiet, resting}
 use Rattle.gb_laws.proofs.points.PointParts.{sent_told}
-use Rattle.gb_laws.proofs.points.Points.{Change, Law, acts_asked, acts_failed, acts_opened}
+use Rattle.gb_laws.proofs.points.Points.{Change, Law, acts_asked, acts_failed, acts_made}
 use Rattle.gb_laws.proofs.points.Points.{acts_shut}
 use Rattle.gb_laws.proofs.points.Points.{acts_told, answers, asks, changed, drops, gives_up}
 use Rattle.gb_laws.proofs.points.Points.{injects}
@@ -183,7 +183,7 @@ says-kept m a (acts_shut k rest free is cause) h =
     (all_ended ns outcome.Disconnected a.state.bus.outcomes))
     (sym (open_requests-same (is_of k side.Ap) a.state.bus _))
     (says-ended (open_on k side.Ap a.state.bus) h)
-says-kept m a (acts_opened w q rest free is) h =
+says-kept m a (acts_made w q rest free is) h =
     says-more _ ((λ n. refl), tt) h
 says-kept m a (acts_asked q n rest is) h =
     subst (λ (b : Bus). SaysEnds (a.told ++ []) b.outcomes)
@@ -196,18 +196,18 @@ says-kept m a _ h =
 -- ---- the laws
 
 -- the basis, and what is told of ends
-abbrev Told : Point → Type 0
-Told a = Basis a × Says a
+abbrev AreToldEnds : Point → Type 0
+AreToldEnds a = Basis a × Says a
 
 abbrev ends_law : (m : Moment) → Law m
 ends_law m = record {
-  holds = Told;
+  holds = AreToldEnds;
   basis = λ a h. h.0;
   kept = λ a x h. (basis-kept a x h.0, says-kept m a x h.1);
 }
 
 abbrev pub ToldAt : List Entry → State → Type 0
-ToldAt told s = Told (resting told s)
+ToldAt told s = AreToldEnds (resting told s)
 
 pub ends-throughout : HoldsByMoments ToldAt
 ends-throughout = throughout ToldAt (

@@ -5,7 +5,7 @@ use Rattle.std.specs.Prelude.{Err, Ok, Result, option_map, ◌==◌}
 use Rattle.gb_base.specs.declared.end.Side.{Side}
 use Rattle.gb_base.specs.declared.entry.Entry.{Entry}
 use Rattle.gb_base.specs.declared.entry.Entry.TheVariants as entry
-use Rattle.gb_base.specs.declared.fault.RawFault.{RawFault}
+use Rattle.gb_base.specs.declared.reasons.RawFault.{RawFault}
 use Rattle.gb_formats.specs.{Message.Message, Wire.raw_message}
 use Rattle.gb_machine.proofs.Lists.{nth-past}
 use Rattle.gb_machine.specs.Bus.{Ask, Bus, Connection, Item, Raw, RawReply, Reply, Request}

@@ -20,7 +20,7 @@ use Rattle.gb_laws.proofs.basis.Loosening.{held-at}
 use Rattle.gb_laws.proofs.points.PointParts.{Basis, Hand, Point, loose, loose_hand, loose_held}
 use Rattle.gb_laws.proofs.points.PointParts.{resting}
 use Rattle.gb_laws.proofs.points.Points.{Change, Law, acts_asked, acts_failed, acts_left}
-use Rattle.gb_laws.proofs.points.Points.{acts_opened}
+use Rattle.gb_laws.proofs.points.Points.{acts_made}
 use Rattle.gb_laws.proofs.points.Points.{acts_shut, acts_told, answers, asks, changed, drops}
 use Rattle.gb_laws.proofs.points.Points.{forgets}
 use Rattle.gb_laws.proofs.points.Points.{gives_up, holds, injects, names, replies, takes}
@@ -149,7 +149,7 @@ once-kept m a (acts_shut k rest free is cause) basis h =
 once-kept m a (acts_left k rest free untouched is) basis h =
     once-fewer a _ [] refl tt (λ n r made. made)
     (λ n. detached-counts (is_ask n) (loose a) a.state.bus k) h
-once-kept m a (acts_opened w q rest free is) basis h =
+once-kept m a (acts_made w q rest free is) basis h =
     once-fewer a _ (_ ∷ []) refl ((λ k. refl), tt) (λ n r made. made)
     (λ n. let same = attached-counts (is_ask n) (loose a) a.state.bus w.ap w.intf w.cport w.protocol
     in omega (arith, same)) h

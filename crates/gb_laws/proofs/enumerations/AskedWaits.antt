@@ -2,7 +2,7 @@
 use Rattle.std.proofs.Common.{Bool, List, None, Some, ap, cond, false, inl, inr, refl, subst, sym}
 use Rattle.std.proofs.Common.{true, ℕ, ⊎_elim, [], ◌++◌, ◌∙◌, ◌∷◌, ◌≡◌}
 use Rattle.std.specs.Prelude.{not, ◌&&◌}
-use Rattle.gb_base.specs.declared.peers.Interface.{Interface}
+use Rattle.gb_base.specs.declared.interface.Interface.{Interface}
 use Rattle.gb_base.specs.declared.steps.{Purpose.Purpose, SequenceStep.SequenceStep}
 use Rattle.gb_machine.specs.Host.{Host, is_intf, with_interface, with_link}
 use Rattle.gb_machine.specs.Turns.{Act, Asking, Making}
@@ -19,7 +19,7 @@ is_power_step step = is_enumeration step && not (asks_control step)
 -- a request is to be made, on a connection that is there or is made for it
 pub data AsksIn (q : Asking) (acts : List Act) : Type 0 where
   asks_in : IsIn (Act.Ask q) acts → AsksIn q acts
-  opens_in : (w : Making) → IsIn (Act.Open w q) acts → AsksIn q acts
+  opens_in : (w : Making) → IsIn (Act.Make w q) acts → AsksIn q acts
 
 pub asks-more : (q : Asking) (x : Act) {acts : List Act} → AsksIn q acts → AsksIn q (x ∷ acts)
 asks-more q x (asks_in i) = asks_in (inr i)
@@ -48,12 +48,12 @@ asked-alone (asks_in (inr i)) = absurd i
 asked-alone (opens_in w (inl e)) = absurd cc
 asked-alone (opens_in w (inr i)) = absurd i
 
-pub opened-alone : {p q : Asking} (w : Making) → AsksIn q (Act.Open w p ∷ []) → p ≡ q
+pub opened-alone : {p q : Asking} (w : Making) → AsksIn q (Act.Make w p ∷ []) → p ≡ q
 opened-alone w (asks_in (inl e)) = absurd cc
 opened-alone w (asks_in (inr i)) = absurd i
 opened-alone {p} {q} w (opens_in v (inl e)) = same v w q p e
   where
-    same : (v u : Making) (x y : Asking) → Act.Open v x ≡ Act.Open u y → y ≡ x
+    same : (v u : Making) (x y : Asking) → Act.Make v x ≡ Act.Make u y → y ≡ x
     same v u x y f = cc
 opened-alone w (opens_in v (inr i)) = absurd i
 

@@ -4,7 +4,7 @@ use Rattle.std.proofs.Common.{Bool, List, None, Option, Some, ap, arith, false, 
 use Rattle.std.proofs.Common.{true, ℕ, ⊎_elim, [], ◌∙◌, ◌∷◌, ◌≡◌, ◌≢◌}
 use Rattle.std.specs.Prelude.{not, option_and_then, ◌&&◌}
 use Rattle.gb_base.specs.declared.entry.Entry.{Entry}
-use Rattle.gb_base.specs.declared.peers.Interface.{Interface}
+use Rattle.gb_base.specs.declared.interface.Interface.{Interface}
 use Rattle.gb_base.specs.declared.steps.SequenceStep.{SequenceStep}
 use Rattle.gb_machine.specs.Bus.{Bus, Request, next_number, request_of}
 use Rattle.gb_machine.specs.Host.{Host, interface_of, is_intf}

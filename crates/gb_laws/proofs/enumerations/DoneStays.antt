@@ -3,7 +3,7 @@
 use Rattle.std.proofs.Common.{Bool, List, Option, ap, cond, false, inl, inr, refl, subst, sym, true}
 use Rattle.std.proofs.Common.{ℕ, ⊎_elim, [], ◌∙◌, ◌∷◌, ◌≡◌, ◌⊎◌}
 use Rattle.gb_base.specs.declared.entry.IntfStage.TheVariants as stage
-use Rattle.gb_base.specs.declared.peers.Interface.{Interface}
+use Rattle.gb_base.specs.declared.interface.Interface.{Interface}
 use Rattle.gb_base.specs.declared.steps.{Purpose.Purpose, SequenceStep.SequenceStep}
 use Rattle.gb_machine.specs.Host.{Host, is_intf, staged, with_interface, with_link}
 use Rattle.gb_machine.specs.{Lists.at_first, Members.IsIn, SequenceSteps.is_enumeration}

@@ -1,7 +1,7 @@
 -- An interface is enumerated, and where it stays so.
 use Rattle.std.proofs.Common.{Bool, List, None, ap, cond, false, refl, sym, true, ℕ, ⊎_elim, ◌∙◌}
 use Rattle.std.proofs.Common.{◌≡◌}
-use Rattle.gb_base.specs.declared.peers.Interface.{Interface}
+use Rattle.gb_base.specs.declared.interface.Interface.{Interface}
 use Rattle.gb_base.specs.declared.steps.Purpose.{Purpose}
 use Rattle.gb_base.specs.declared.entry.IntfStage.TheVariants as stage
 use Rattle.gb_machine.specs.Host.{Host, intf_before, is_intf, new_interface, staged, with_interface}

@@ -4,7 +4,7 @@ use Rattle.std.proofs.Common.{Bool, List, None, Option, Some, ap, false, inl, re
 use Rattle.std.proofs.Common.{true, ℕ, ⊎_elim, [], ◌∙◌, ◌∷◌, ◌≡◌, ◌≢◌}
 use Rattle.std.specs.Prelude.{is_none, ◌==◌}
 use Rattle.gb_base.specs.declared.entry.IntfStage.{IntfStage}
-use Rattle.gb_base.specs.declared.peers.{Interface.Interface, Link.Link}
+use Rattle.gb_base.specs.declared.interface.{Interface.Interface, Link.Link}
 use Rattle.gb_base.specs.declared.steps.Purpose.{Purpose}
 use Rattle.gb_base.specs.declared.end.Side.TheVariants as side
 use Rattle.gb_base.specs.declared.entry.IntfStage.TheVariants as stage
@@ -34,7 +34,7 @@ use Rattle.gb_laws.proofs.links.LinkActs.{with_images, with_more}
 use Rattle.gb_laws.proofs.links.LinkEnds.{WaitsFor, connecting, enumerating, waits-for}
 use Rattle.gb_laws.proofs.links.LinkSources.{from-turn, from-unsent, from-waiting}
 use Rattle.gb_laws.proofs.links.Links.{ArePending, IsFree, IsMaking, connection, control}
-use Rattle.gb_laws.proofs.points.Points.{Change, IsAsking, acts_asked, acts_failed, acts_opened}
+use Rattle.gb_laws.proofs.points.Points.{Change, IsAsking, acts_asked, acts_failed, acts_made}
 use Rattle.gb_laws.proofs.points.Points.{asking}
 use Rattle.gb_laws.proofs.points.Points.{changed, gives, opening, serves, spends, turns}
 use Rattle.gb_laws.proofs.{points.ChangeHosts.asks-kept, creations.CreatingFacts.Came}
@@ -227,7 +227,7 @@ links-kept m absent i a (turns e free untouched none cause) links settled h =
         (ap (λ g. (turn_of g a.state.host).acts) r.1)
     by false f = links-turned m absent i a links settled h e cause refl refl
         (λ j is. ap (is_removal_of i) (sym is) ∙ f)
-links-kept m absent i a (acts_opened w q rest free is) links settled h = record {
+links-kept m absent i a (acts_made w q rest free is) links settled h = record {
   stages = h.stages;
   links = λ l j at other. ⊎_elim (λ o. h.links l o at other)
       (λ e. new (ap (λ (y : Link). y.intf) (sym e) ∙ at)
@@ -240,7 +240,7 @@ links-kept m absent i a (acts_opened w q rest free is) links settled h = record 
     made = (subst (ArePending a.state.host) is links.pending).0.0
 
     asked : (r : Asking) → AsksIn r (Act.Ask q ∷ rest) → AsksIn r a.pending
-    asked r j = asks-kept m a (acts_opened w q rest free is) tt r j
+    asked r j = asks-kept m a (acts_made w q rest free is) tt r j
 
     step : w.cport ≢ 0 → IsMaking w q.purpose.step → is_enumeration q.purpose.step ≡ false
     step other s = by q.purpose.step s

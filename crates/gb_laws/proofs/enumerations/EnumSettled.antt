@@ -3,7 +3,7 @@
 use Rattle.std.proofs.Common.{Bool, List, None, Option, Some, ap, arith, false, inl, inr, refl}
 use Rattle.std.proofs.Common.{subst, sym, true, ℕ, ⊎_elim, [], ◌∙◌, ◌∷◌, ◌≡◌}
 use Rattle.std.specs.Prelude.{is_some, not, ◌&&◌}
-use Rattle.gb_base.specs.declared.peers.Interface.{Interface}
+use Rattle.gb_base.specs.declared.interface.Interface.{Interface}
 use Rattle.gb_base.specs.declared.steps.{Purpose.Purpose, SequenceStep.SequenceStep}
 use Rattle.gb_machine.specs.Turns.{Act, Asking}
 use Rattle.gb_machine.specs.Waits.{awaited, awaits_nothing, interface_waits, link_waits}

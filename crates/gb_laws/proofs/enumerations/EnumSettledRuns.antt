@@ -4,7 +4,7 @@ use Rattle.std.proofs.Common.{Bool, List, Some, ap, cond, false, inl, map, refl,
 use Rattle.std.proofs.Common.{ℕ, ⊎_elim, [], ◌++◌, ◌∙◌, ◌∷◌, ◌≡◌}
 use Rattle.gb_base.specs.declared.end.Side.TheVariants as side
 use Rattle.gb_base.specs.declared.entry.Entry.{Entry}
-use Rattle.gb_base.specs.declared.peers.Interface.{Interface}
+use Rattle.gb_base.specs.declared.interface.Interface.{Interface}
 use Rattle.gb_base.specs.declared.steps.SequenceStep.{SequenceStep}
 use Rattle.gb_machine.specs.Host.{Host, is_intf, with_interface, with_link}
 use Rattle.gb_machine.specs.Runs.{IsMoment, Moment, after, told_at}

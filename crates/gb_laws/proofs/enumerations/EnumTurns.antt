@@ -2,7 +2,7 @@
 -- that is enumerated then.
 use Rattle.std.proofs.Common.{ap, inl, inr, refl, subst, sym, true, ℕ, ⊎_elim, [], ◌∙◌, ◌∷◌, ◌≡◌}
 use Rattle.std.proofs.Common.{◌⊎◌}
-use Rattle.gb_base.specs.declared.peers.Interface.{Interface}
+use Rattle.gb_base.specs.declared.interface.Interface.{Interface}
 use Rattle.gb_base.specs.declared.steps.{Purpose.Purpose, SequenceStep.SequenceStep}
 use Rattle.gb_base.specs.declared.steps.SequenceStep.TheVariants as steps
 use Rattle.gb_machine.specs.Turns.{Asking, Turn}

@@ -7,8 +7,7 @@ use Rattle.gb_base.specs.declared.end.End.TheVariants as end
 use Rattle.gb_base.specs.declared.end.Side.TheVariants as side
 use Rattle.gb_base.specs.declared.outcome.Outcome.TheVariants as outcome
 use Rattle.gb_formats.specs.Loader.{Loaded, Loader}
-use Rattle.gb_formats.specs.Module.{CportState, Module}
-use Rattle.gb_formats.specs.ModuleLoads.{if_may_ask}
+use Rattle.gb_formats.specs.Module.{Module}
 use Rattle.gb_formats.specs.Results.{success}
 use Rattle.gb_machine.specs.Bus.{Connection, Place, Reply, Request, queue, same_end}
 use Rattle.gb_machine.specs.LawsBus.{AreApart}
@@ -22,9 +21,10 @@ use Rattle.gb_invariants.proofs.Awaiting.{same-some}
 use Rattle.gb_invariants.proofs.ItemChanges.{first-in}
 use Rattle.gb_invariants.proofs.Lists.{each-in, found-in, not-both}
 use Rattle.gb_invariants.proofs.Selves.{svc-no-module}
-use Rattle.gb_laws.proofs.firmware.FirmwareOnward.{Onward, UncleanAreKnown, one-place}
-use Rattle.gb_laws.proofs.firmware.LoaderSteps.{ChangesIn, EndsLoader, changes-in, ended-loader}
-use Rattle.gb_laws.proofs.firmware.NextPieces.{Answered, answered-so}
+use Rattle.gb_laws.proofs.firmware.MomentToPoint.{FromBefore, UncleanAreKnown, one-place}
+use Rattle.gb_laws.proofs.firmware.LoaderSteps.{ChangesIn, EndsLoader, IsNoFailure, changes-in}
+use Rattle.gb_laws.proofs.firmware.LoaderSteps.{ended-loader}
+use Rattle.gb_laws.proofs.firmware.NextPieces.{Answered, FollowsSo, answered-so}
 use Rattle.gb_laws.proofs.firmware.Running.{FitsAt, Free, IsGood, QuietAt, RunAt, RunIn, Running}
 use Rattle.gb_laws.proofs.points.Places.{place-is}
 use Rattle.gb_laws.proofs.points.PointParts.{Point, Wired}
@@ -50,20 +50,18 @@ one-peer (x ∷ xs) c d apart (inr i) (inr j) e = one-peer xs c d apart.1 i j e
 
 -- ---- what is heard
 
--- The download that runs at a CPort, and the answer to its request.
+-- The download that runs at a CPort, the answer to its request, and what follows.
 pub record Heard (m : Moment) (a : Point) (i c : ℕ) (x : Module) (what : Next) : Type 0 where
   pub last : Load
   pub inside : IsIn last a.state.loads
   pub intf : last.intf ≡ i
   pub cport : last.cport ≡ c
   pub before : Loader
-  pub state : CportState
   pub loaded : Loaded
-  pub next : (if_may_ask state loaded).next ≡ what
-  pub changes : ChangesIn i c before (if_may_ask state loaded).after a.state.modules
-      (with_module i x a.state.modules)
+  pub changes : ChangesIn i c before loaded.after a.state.modules (with_module i x a.state.modules)
   pub payload : List ℕ
   pub answered : Answered payload before loaded
+  pub follows : FollowsSo answered.download payload before loaded.after what
   pub run : Running (FitsAt m) m.before.bus.connections a.hand a.told a.state last
       answered.download
   pub reply : WasClean run.trail.connection a.state
@@ -75,21 +73,22 @@ pub record Heard (m : Moment) (a : Point) (i c : ℕ) (x : Module) (what : Next)
 
 module _ (m : Moment) (a : Point) (rested : RunAt m.told m.before)
     (remembered : UncleanAreKnown m.before)
-    (apart : EachTwo AreApart m.before.bus.connections) (on : Onward m a) (runs : RunIn m a) where
+    (apart : EachTwo AreApart m.before.bus.connections) (on : FromBefore m a)
+    (runs : RunIn m a) where
   pub heard : (i c : ℕ) (x : Module) (what : Next) → HearsBack m a.state i c x what
-      → Heard m a i c x what
-  heard i c x what h = record {
+      → IsNoFailure what → Heard m a i c x what
+  heard i c x what h good = record {
     last = h.last;
     inside = inside;
     intf = h.intf;
     cport = h.cport;
     before = ends.before;
-    state = ends.state;
     loaded = ends.loaded;
-    next = ends.next;
     changes = changes;
     payload = h.payload;
     answered = said;
+    follows = subst (FollowsSo said.download h.payload ends.before ends.loaded.after) ends.next
+        said.follows;
     run = run;
     reply = λ w. (run.clean w).reply h.payload (inr (
       h.heard.place.connection,
@@ -104,12 +103,12 @@ module _ (m : Moment) (a : Point) (rested : RunAt m.told m.before)
       inside = (found-in (λ (l : Load). l.request == h.last.request) a.state.loads h.last h.load).0
 
       ends : EndsLoader h.body c (outcome.Answered success h.payload) x what
-      ends = ended-loader h.body c (outcome.Answered success h.payload) x what h.ends
+      ends = ended-loader h.body c (outcome.Answered success h.payload) x what h.ends good
 
-      changes : ChangesIn i c ends.before (if_may_ask ends.state ends.loaded).after a.state.modules
+      changes : ChangesIn i c ends.before ends.loaded.after a.state.modules
           (with_module i x a.state.modules)
-      changes = changes-in i c ends.before (if_may_ask ends.state ends.loaded).after a.state.modules
-          h.body x h.plugged ends.changes
+      changes = changes-in i c ends.before ends.loaded.after a.state.modules h.body x h.plugged
+          ends.changes
 
       said : Answered h.payload ends.before ends.loaded
       said = answered-so h.payload ends.before ends.loaded ends.ended

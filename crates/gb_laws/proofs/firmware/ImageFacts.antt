@@ -1,12 +1,12 @@
--- What becomes of the images of the application processor, and of the ids under which it lends
--- them.
+-- What becomes of the images of the application processor, and of the ids under which it
+-- lends them.
 use Rattle.std.proofs.Common.{Bool, List, None, Option, Some, ap, cond, false, inl, inr, length}
 use Rattle.std.proofs.Common.{refl, subst, sym, true, ℕ, [], ◌∙◌, ◌∷◌, ◌≡◌, ◌≤◌, ◌⊎◌}
 use Rattle.std.proofs.lemmas.List.Folds.{find-append}
 use Rattle.std.specs.List.{find, list_any}
 use Rattle.std.specs.Option.{option_or}
 use Rattle.std.specs.Prelude.{Err, Ok, Result, drop, option_map, take, ◌&&◌, ◌==◌}
-use Rattle.gb_base.specs.declared.peers.Link.{Link}
+use Rattle.gb_base.specs.declared.interface.Link.{Link}
 use Rattle.gb_formats.specs.FirmwareRecords.{FirmwareAsk, FirmwareReply}
 use Rattle.gb_formats.specs.Images.{Image, Images, Loan, fetch_step, find_step, finds, forgotten}
 use Rattle.gb_formats.specs.Images.{free_id, has_tag, image_of, images_asked, images_read}
@@ -101,8 +101,8 @@ fewer-as k id tag f h t e = h t (f.lent k id t e)
 
 -- ---- requests
 
--- What a request on connection k does to images: they stay, or an id of the connection is lent or
--- free.
+-- What a request on connection k does to images: they stay, or an id of the connection is lent
+-- or free.
 pub record Steps (k : ℕ) (x after : Images) : Type 0 where
   pub given : after.given ≡ x.given
   pub aside : (j id : ℕ) → (j ≡ k → ⊥) → lent_tag j id after ≡ lent_tag j id x

@@ -10,14 +10,14 @@ use Rattle.gb_base.specs.declared.entry.Entry.{Entry}
 use Rattle.gb_formats.specs.Images.{Image}
 use Rattle.gb_formats.specs.Loader.{Loader, loader_begun}
 use Rattle.gb_formats.specs.Module.{Module}
-use Rattle.gb_formats.specs.ModuleLoads.{if_may_ask, kept_at, loader_at, module_load}
+use Rattle.gb_formats.specs.ModuleLoads.{kept_at, loader_at}
 use Rattle.gb_machine.specs.Bus.{Connection, connection_of}
 use Rattle.gb_machine.specs.LawsBus.{AreApart}
 use Rattle.gb_machine.specs.LawsFirmware.{AreLoaded, Follow, IsLoaded, kept, ranges_of}
 use Rattle.gb_machine.specs.Lists.{without}
 use Rattle.gb_machine.specs.Loading.{is_trail_at}
 use Rattle.gb_machine.specs.Members.{EachTwo}
-use Rattle.gb_machine.specs.Modules.{module_at, with_module}
+use Rattle.gb_machine.specs.Modules.{module_at}
 use Rattle.gb_machine.specs.Runs.{Moment}
 use Rattle.gb_machine.specs.Sending.{Draft, label_for}
 use Rattle.gb_machine.specs.State.{Plugged, Port, State, Trail}
@@ -26,11 +26,12 @@ use Rattle.gb_invariants.proofs.BusChanges.{KeepsRequests}
 use Rattle.gb_invariants.proofs.Found.{find-left, none-of}
 use Rattle.gb_invariants.proofs.Lists.{found-in, in-filter, not-both}
 use Rattle.gb_invariants.proofs.Outcomes.{both-true, same-number}
-use Rattle.gb_laws.proofs.firmware.FirmwareOnward.{Onward, UncleanAreKnown, unclean-kept}
+use Rattle.gb_laws.proofs.firmware.MomentToPoint.{FromBefore, UncleanAreKnown, unclean-kept}
 use Rattle.gb_laws.proofs.firmware.HeardBack.{Heard, heard}
-use Rattle.gb_laws.proofs.firmware.LoaderSteps.{ChangesIn, asks-step, begun, changes-in}
-use Rattle.gb_laws.proofs.firmware.NextPieces.{Finished, FollowsSo, Went}
+use Rattle.gb_laws.proofs.firmware.LoaderSteps.{ChangesIn}
+use Rattle.gb_laws.proofs.firmware.NextPieces.{Finished, Went}
 use Rattle.gb_laws.proofs.firmware.Running.{FitsAt, HasSoFar, RunAt, RunIn, reached}
+use Rattle.gb_laws.proofs.firmware.RunningAsks.{begins-changes}
 use Rattle.gb_laws.proofs.firmware.RunningKept.{IsAside, one-or_apart, same-downloads}
 use Rattle.gb_laws.proofs.firmware.RunningMoved.{ranges-kept, trails-kept}
 use Rattle.gb_laws.proofs.firmware.RunningNew.{Apart, trail-apart}
@@ -130,11 +131,7 @@ pub begins-loaded : (m : Moment) (a : Point) (d : Draft) (c : Connection) (label
     wired)))
 begins-loaded m a d c label free live drawn i p x going far wired =
     loader-kept m a (asks d c label free live drawn (by_loader (begins i p x) going far wired)) i p
-    going.7 (loader_begun going.0 going.7)
-    (subst (λ y. ChangesIn i p going.7 (loader_begun going.0 going.7) a.state.modules
-    (with_module i y a.state.modules)) (sym going.6)
-    (changes-in i p going.7 (loader_begun going.0 going.7) a.state.modules going.1
-    (module_load going.1 p going.0) going.5 (begun going.1 p going.0 going.7 going.8))) refl refl
+    going.7 (loader_begun going.0 going.7) (begins-changes m a.state c d i p x going) refl refl
 
 -- where loaders fail or are gone
 pub others-loaded : (m : Moment) (a : Point) (booted : Bool) (marks : List ℕ) (ports : List Port)
@@ -223,7 +220,8 @@ loaded-aside i c j d loaded loading other =
 
 module _ (m : Moment) (a : Point) (rested : RunAt m.told m.before)
     (remembered : UncleanAreKnown m.before)
-    (apart : EachTwo AreApart m.before.bus.connections) (on : Onward m a) (runs : RunIn m a) where
+    (apart : EachTwo AreApart m.before.bus.connections) (on : FromBefore m a)
+    (runs : RunIn m a) where
   -- where one goes on
   pub continues-loaded : (d : Draft) (c : Connection) (label : ℕ)
       (free : a.hand ≡ None) (live : connection_of d.connection a.state.bus ≡ Some c)
@@ -234,19 +232,13 @@ module _ (m : Moment) (a : Point) (rested : RunAt m.told m.before)
       wired)))
   continues-loaded d c label free live drawn i p x going far wired =
       loader-kept m a (asks d c label free live drawn (by_loader (continues i p x) going far wired))
-      i p h.before (if_may_ask h.state h.loaded).after h.changes
-      (ap (λ (l : Loader). l.kept) step.1 ∙ went.kept) refl
+      i p h.before h.loaded.after h.changes went.kept refl
     where
       h : Heard m a i p x (next.Ask going.0)
-      h = heard m a rested remembered apart on runs i p x (next.Ask going.0) going.2
-
-      step : (h.loaded.next ≡ next.Ask going.0)
-          × ((if_may_ask h.state h.loaded).after ≡ h.loaded.after)
-      step = asks-step h.state h.loaded (next.Ask going.0) h.next (λ tag e. absurd cc)
+      h = heard m a rested remembered apart on runs i p x (next.Ask going.0) going.2 tt
 
       went : Went h.answered.download h.payload going.0 h.before h.loaded.after
-      went = subst (FollowsSo h.answered.download h.payload h.before h.loaded.after) step.0
-          h.answered.follows
+      went = h.follows
 
   -- what is kept is what the download has
   pub finishes-loaded : (i p : ℕ) (x : Module) (tag : List ℕ) (size : ℕ) (idle : IsIdle a)
@@ -265,15 +257,10 @@ module _ (m : Moment) (a : Point) (rested : RunAt m.told m.before)
       told = (changed m a change).told
 
       h : Heard m a i p x (next.Done tag size)
-      h = heard m a rested remembered apart on runs i p x (next.Done tag size) hears
-
-      step : (h.loaded.next ≡ next.Done tag size)
-          × ((if_may_ask h.state h.loaded).after ≡ h.loaded.after)
-      step = asks-step h.state h.loaded (next.Done tag size) h.next (λ tag e. absurd cc)
+      h = heard m a rested remembered apart on runs i p x (next.Done tag size) hears tt
 
       done : Finished h.answered.download tag size h.loaded.after
-      done = subst (FollowsSo h.answered.download h.payload h.before h.loaded.after) step.0
-          h.answered.follows
+      done = h.follows
 
       found : find (is_trail_at i p) a.state.past.loading ≡ Some h.run.trail
       found = subst (λ k. find (is_trail_at k p) a.state.past.loading ≡ Some h.run.trail) h.intf
@@ -297,8 +284,7 @@ module _ (m : Moment) (a : Point) (rested : RunAt m.told m.before)
 
       here : (j ≡ i) × (d ≡ p) → IsLoaded told after j d image
       here s =
-          let now = sym done.kept ∙ ap (λ (l : Loader). l.kept) (sym step.1)
-          ∙ sym (ap kept_of h.changes.is)
+          let now = sym done.kept ∙ sym (ap kept_of h.changes.is)
           ∙ ap (λ k. kept_of (loader_in i k after.modules)) (sym s.1)
           ∙ ap (λ k. kept_of (loader_in k d after.modules)) (sym s.0)
           ∙ sym (kept-loader j d after) ∙ e in

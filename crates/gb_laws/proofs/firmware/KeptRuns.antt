@@ -13,13 +13,14 @@ use Rattle.gb_machine.specs.State.{State, Trail, first_state}
 use Rattle.gb_invariants.proofs.Awaiting.{none-some}
 use Rattle.gb_invariants.proofs.Lists.{each-weaker, not-both}
 use Rattle.gb_laws.proofs.basis.Basics.{basis}
-use Rattle.gb_laws.proofs.firmware.FirmwareOnward.{Onward, UncleanAreKnown, onward-kept}
+use Rattle.gb_laws.proofs.firmware.MomentToPoint.{FromBefore, UncleanAreKnown, from_before-kept}
 use Rattle.gb_laws.proofs.firmware.ImageFacts.{AreShort}
 use Rattle.gb_laws.proofs.firmware.KeptImages.{KeptAt, aside-loaded, begins-loaded}
 use Rattle.gb_laws.proofs.firmware.KeptImages.{continues-loaded, finishes-loaded, others-loaded}
 use Rattle.gb_laws.proofs.firmware.KeptImages.{unloads-loaded}
 use Rattle.gb_laws.proofs.firmware.Running.{RunAt, RunIn}
-use Rattle.gb_laws.proofs.firmware.RunningGoes.{begins-kept, continues-kept, finishes-kept}
+use Rattle.gb_laws.proofs.firmware.RunningBegins.{begins-kept}
+use Rattle.gb_laws.proofs.firmware.RunningGoes.{continues-kept, finishes-kept}
 use Rattle.gb_laws.proofs.firmware.RunningKept.{aside-kept, others-kept, unloads-kept}
 use Rattle.gb_laws.proofs.firmware.RunningMoved.{asked-kept}
 use Rattle.gb_laws.proofs.firmware.RunningRests.{runs-end, runs-start}
@@ -50,7 +51,7 @@ module _ (m : Moment) (one : IsMoment m.event) (start : DownloadsTo m.told m.bef
   abbrev ends : EachTwo AreApart m.before.bus.connections
   ends = start.apart.apart
 
-  downloads-kept : (a : Point) (x : Change m a) → Basis a → Onward m a → DownloadsAt a
+  downloads-kept : (a : Point) (x : Change m a) → Basis a → FromBefore m a → DownloadsAt a
       → DownloadsAt (changed m a x)
   downloads-kept a (asks d c label free live drawn (by_loader (begins i p x) going far wired)) b on
       h = (
@@ -80,13 +81,13 @@ module _ (m : Moment) (one : IsMoment m.event) (start : DownloadsTo m.told m.bef
 
   -- ---- a moment
 
-  abbrev onward_law : Law m
-  onward_law = upon (basis m) (Onward m) (λ a x g h. onward-kept m a x one h)
+  abbrev from_before_law : Law m
+  from_before_law = upon (basis m) (FromBefore m) (λ a x g h. from_before-kept m a x one h)
 
   abbrev downloads_law : Law m
-  downloads_law = upon onward_law DownloadsAt (λ a x g h. downloads-kept a x g.0 g.1 h)
+  downloads_law = upon from_before_law DownloadsAt (λ a x g h. downloads-kept a x g.0 g.1 h)
 
-  first-point : Onward m (resting m.told m.before)
+  first-point : FromBefore m (resting m.told m.before)
   first-point = record {
     taken = λ h e ap_side. absurd (none-some e);
     requests = λ n r e. e;

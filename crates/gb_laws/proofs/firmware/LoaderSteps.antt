@@ -1,64 +1,28 @@
 -- What becomes of the loaders of a module: one changes with its download, and the others stay.
 use Rattle.std.proofs.Common.{Bool, List, None, Option, Some, ap, cond, false, refl, subst, sym}
-use Rattle.std.proofs.Common.{true, ℕ, [], ◌∙◌, ◌∷◌, ◌≡◌}
-use Rattle.std.specs.List.{find}
+use Rattle.std.proofs.Common.{true, ℕ, ◌∙◌, ◌≡◌}
 use Rattle.std.specs.Prelude.{option_and_then, option_map, ◌==◌}
 use Rattle.gb_base.specs.declared.download.Next.{Next}
 use Rattle.gb_base.specs.declared.download.Next.TheVariants as next
 use Rattle.gb_base.specs.declared.outcome.Outcome.{Outcome}
 use Rattle.gb_formats.specs.Devices.{Device, Firmware}
 use Rattle.gb_formats.specs.Loader.{Loaded, Loader, loader_begun, loader_ended}
-use Rattle.gb_formats.specs.Module.{CportState, Module, ModulePort, is_on, is_port, port_at}
-use Rattle.gb_formats.specs.Module.{with_changed, with_port}
+use Rattle.gb_formats.specs.Module.{CportState, Module, ModulePort, is_on, port_at, with_changed}
 use Rattle.gb_formats.specs.ModuleLoads.{ModuleLoaded, device_ended, if_may_ask, loader_at}
 use Rattle.gb_formats.specs.ModuleLoads.{loader_changed, loader_of, module_ended, module_load}
 use Rattle.gb_formats.specs.ModuleLoads.{port_ended, port_loaded, port_loader, unasked, with_loader}
-use Rattle.gb_machine.specs.Modules.{is_plugged_at, module_at, with_module}
+use Rattle.gb_machine.specs.Modules.{module_at, with_module}
 use Rattle.gb_machine.specs.State.{Plugged}
 use Rattle.gb_invariants.proofs.Awaiting.{none-some, same-some}
-use Rattle.gb_invariants.proofs.Found.{find-aside, find-changed}
-use Rattle.gb_invariants.proofs.Lists.{found-in}
-use Rattle.gb_invariants.proofs.Outcomes.{is-same, same-number}
+use Rattle.gb_invariants.proofs.Outcomes.{same-number}
 use Rattle.gb_laws.proofs.points.Loadings.{loader_in}
+use Rattle.gb_laws.proofs.steps.LoaderStays.{loader-else, loader-there, own-number, own-port}
+use Rattle.gb_laws.proofs.steps.LoadersPlugged.{module-other, module-there}
 
 -- ---- one CPort changes
 
--- what is at a CPort where one changes: at that CPort the new one, if there was one
-changed-here : (new : ModulePort) (ports : List ModulePort) (old : ModulePort)
-    → find (is_port new.number) ports ≡ Some old
-    → find (is_port new.number) (with_port new ports) ≡ Some new
-changed-here new [] old h = absurd (none-some h)
-changed-here new (p ∷ ps) old h = by (p.number == new.number) refl h (changed-here new ps old)
-  where
-    by : (t : Bool) → (p.number == new.number) ≡ t
-        → cond t (Some p) (find (is_port new.number) ps) ≡ Some old
-        → (find (is_port new.number) ps ≡ Some old
-        → find (is_port new.number) (with_port new ps) ≡ Some new)
-        → find (is_port new.number) (cond t (new ∷ ps) (p ∷ with_port new ps)) ≡ Some new
-    by true e h rec =
-        ap (λ t. cond t (Some new) (find (is_port new.number) ps)) (is-same new.number)
-    by false e h rec =
-        ap (λ t. cond t (Some p) (find (is_port new.number) (with_port new ps))) e ∙ rec h
-
--- and at another what was there
-changed-aside : (new : ModulePort) (c : ℕ) (ports : List ModulePort) → (new.number == c) ≡ false
-    → find (is_port c) (with_port new ports) ≡ find (is_port c) ports
-changed-aside new c [] other = refl
-changed-aside new c (p ∷ ps) other =
-    by (p.number == new.number) refl (changed-aside new c ps other)
-  where
-    by : (t : Bool) → (p.number == new.number) ≡ t
-        → find (is_port c) (with_port new ps) ≡ find (is_port c) ps
-        → find (is_port c) (cond t (new ∷ ps) (p ∷ with_port new ps))
-        ≡ cond (p.number == c) (Some p) (find (is_port c) ps)
-    by true e rec =
-        ap (λ t. cond t (Some new) (find (is_port c) ps)) other
-        ∙ sym (ap (λ t. cond t (Some p) (find (is_port c) ps))
-        (ap (λ n. n == c) (same-number p.number new.number e) ∙ other))
-    by false e rec = ap (λ o. cond (p.number == c) (Some p) o) rec
-
--- The loaders of a module behind a change at a CPort: there it is this one, and elsewhere each
--- stays.
+-- The loaders of a module behind a change at a CPort: there it is this one, and elsewhere
+-- each stays.
 pub record ChangesLoader (m : Module) (c : ℕ) (before after : Loader) (x : Module) : Type 0 where
   pub was : loader_at m c ≡ Some before
   pub is : loader_at x c ≡ Some after
@@ -69,18 +33,16 @@ port-changes : (m : Module) (c : ℕ) (port : ModulePort) (before after : Loader
     → ChangesLoader m c before after (with_changed m (record port { device = Firmware after }))
 port-changes m c port before after at is = record {
   was = ap port_loader at ∙ ap loader_of is;
-  is = ap port_loader (subst (λ n. find (is_port n) (with_port new m.ports) ≡ Some new) number
-      (changed-here new m.ports port (subst (λ n. find (is_port n) m.ports ≡ Some port) (sym number)
-      at)));
-  others = λ d other. ap port_loader
-      (changed-aside new d m.ports (ap (λ n. n == d) number ∙ other));
+  is = subst (λ n. loader_at (with_changed m new) n ≡ Some after) number
+      (loader-there m new port (own-port m c port at));
+  others = λ d other. loader-else m new d (ap (λ n. n == d) number ∙ other);
 }
   where
     new : ModulePort
     new = record port { device = Firmware after }
 
     number : port.number ≡ c
-    number = same-number port.number c (found-in (is_port c) m.ports port at).1
+    number = own-number m c port at
 
 -- a CPort with a loader has a firmware device
 pub record IsFirmwarePort (m : Module) (c : ℕ) (l : Loader) : Type 0 where
@@ -111,21 +73,41 @@ begun m c tag l h =
 
 -- ---- a request ended
 
--- What the end of a request does to a module: a download ran, and this follows, or what it
--- would ask isn't asked.
+-- what follows isn't a failure
+abbrev pub IsNoFailure : Next → Type 0
+IsNoFailure (next.Ask own) = Unit {0}
+IsNoFailure (next.Done tag size) = Unit {0}
+IsNoFailure (next.Failed tag) = ⊥
+
+-- so the loader is as its step has it
+asks-step : (state : CportState) (t : Loaded) (what : Next) → (if_may_ask state t).next ≡ what
+    → IsNoFailure what → (t.next ≡ what) × ((if_may_ask state t).after ≡ t.after)
+asks-step state t what h good = by (is_on state) h
+  where
+    quiet : (n : Next) → t.next ≡ n → (unasked n t).next ≡ what
+        → (t.next ≡ what) × ((unasked n t).after ≡ t.after)
+    quiet (next.Ask own) e h = absurd (subst IsNoFailure (sym h) good)
+    quiet (next.Done tag size) e h = (h, refl)
+    quiet (next.Failed tag) e h = (h, refl)
+
+    by : (b : Bool) → (cond b t (unasked t.next t)).next ≡ what
+        → (t.next ≡ what) × ((cond b t (unasked t.next t)).after ≡ t.after)
+    by true h = (h, refl)
+    by false h = quiet t.next refl h
+
+-- What the end of a request does to a module where no download fails: one ran, and this follows.
 pub record EndsLoader (m : Module) (c : ℕ) (how : Outcome) (x : Module) (what : Next) : Type
     0 where
   pub before : Loader
-  pub state : CportState
   pub loaded : Loaded
   pub ended : loader_ended how before ≡ Some loaded
-  pub next : (if_may_ask state loaded).next ≡ what
-  pub changes : ChangesLoader m c before (if_may_ask state loaded).after x
+  pub next : loaded.next ≡ what
+  pub changes : ChangesLoader m c before loaded.after x
 
 pub ended-loader : (m : Module) (c : ℕ) (how : Outcome) (x : Module) (what : Next)
-    → module_ended m c how ≡ Some (record { after = x; next = what })
+    → module_ended m c how ≡ Some (record { after = x; next = what }) → IsNoFailure what
     → EndsLoader m c how x what
-ended-loader m c how x what h = by (port_at m c) refl h
+ended-loader m c how x what h good = by (port_at m c) refl h
   where
     loaded : (port : ModulePort) → port_at m c ≡ Some port → (l : Loader)
         → port.device ≡ Firmware l → (o : Option Loaded) → loader_ended how l ≡ o
@@ -134,15 +116,17 @@ ended-loader m c how x what h = by (port_at m c) refl h
     loaded port at l is None e h = absurd (none-some h)
     loaded port at l is (Some t) e h =
         let s = same-some (port_loaded m port (if_may_ask port.state t))
-        (record { after = x; next = what }) h in record {
+        (record { after = x; next = what }) h in
+        let step = asks-step port.state t what (ap (λ (r : ModuleLoaded). r.next) s) good
+        in record {
           before = l;
-          state = port.state;
           loaded = t;
           ended = e;
-          next = ap (λ (r : ModuleLoaded). r.next) s;
-          changes = subst (ChangesLoader m c l (if_may_ask port.state t).after)
+          next = step.0;
+          changes = subst (λ k. ChangesLoader m c l k x) step.1
+              (subst (ChangesLoader m c l (if_may_ask port.state t).after)
               (ap (λ (r : ModuleLoaded). r.after) s)
-              (port-changes m c port l (if_may_ask port.state t).after at is);
+              (port-changes m c port l (if_may_ask port.state t).after at is));
         }
 
     device : (port : ModulePort) → port_at m c ≡ Some port → (d : Device) → port.device ≡ d
@@ -157,44 +141,7 @@ ended-loader m c how x what h = by (port_at m c) refl h
     by None e h = absurd (none-some h)
     by (Some port) e h = device port e port.device refl h
 
--- Where it isn't a failure the loader is as its step has it.
-pub asks-step : (state : CportState) (t : Loaded) (what : Next) → (if_may_ask state t).next ≡ what
-    → ((tag : List ℕ) → what ≡ next.Failed tag → ⊥)
-    → (t.next ≡ what) × ((if_may_ask state t).after ≡ t.after)
-asks-step state t what h good = by (is_on state) h
-  where
-    quiet : (n : Next) → t.next ≡ n → (unasked n t).next ≡ what
-        → (t.next ≡ what) × ((unasked n t).after ≡ t.after)
-    quiet (next.Ask own) e h = absurd (good _ (sym h))
-    quiet (next.Done tag size) e h = (h, refl)
-    quiet (next.Failed tag) e h = (h, refl)
-
-    by : (b : Bool) → (cond b t (unasked t.next t)).next ≡ what
-        → (t.next ≡ what) × ((cond b t (unasked t.next t)).after ≡ t.after)
-    by true h = (h, refl)
-    by false h = quiet t.next refl h
-
 -- ---- modules
-
--- a module is plugged where another takes its place
-pub module-here : (i : ℕ) (x y : Module) (modules : List Plugged) → module_at i modules ≡ Some y
-    → module_at i (with_module i x modules) ≡ Some x
-module-here i x y modules h = by (find (is_plugged_at i) modules) refl h
-  where
-    by : (o : Option Plugged) → find (is_plugged_at i) modules ≡ o
-        → option_map (λ (p : Plugged). p.body) o ≡ Some y
-        → module_at i (with_module i x modules) ≡ Some x
-    by None e h = absurd (none-some h)
-    by (Some p) e h = ap (option_map (λ (q : Plugged). q.body))
-        (find-changed (is_plugged_at i) (λ q. record q { body = x }) modules (λ q. refl)
-        ∙ ap (option_map (λ (q : Plugged). record q { body = x })) e)
-
--- and elsewhere is what was there
-pub module-aside : (i j : ℕ) (x : Module) (modules : List Plugged) → (i == j) ≡ false
-    → module_at j (with_module i x modules) ≡ module_at j modules
-module-aside i j x modules other = ap (option_map (λ (q : Plugged). q.body))
-    (find-aside (is_plugged_at j) (is_plugged_at i) (λ q. record q { body = x }) modules
-    (λ q e. let s = ap (λ n. n == j) (same-number q.intf i e) ∙ other in (s, s)))
 
 -- The loaders of all modules behind a change at one CPort.
 pub record ChangesIn (i c : ℕ) (before after : Loader) (modules then_ : List Plugged)
@@ -213,13 +160,13 @@ changes-in i c before after modules m x at h = record {
 }
   where
     here : module_at i (with_module i x modules) ≡ Some x
-    here = module-here i x m modules at
+    here = module-there i x m modules at
 
     other : (j d : ℕ) → ((j ≡ i) → (d ≡ c) → ⊥) → (t : Bool) → (i == j) ≡ t → (u : Bool)
         → (c == d) ≡ u
         → loader_in j d (with_module i x modules) ≡ loader_in j d modules
     other j d apart false e u f =
-        ap (λ o. option_and_then (λ y. loader_at y d) o) (module-aside i j x modules e)
+        ap (λ o. option_and_then (λ y. loader_at y d) o) (module-other i j x modules e)
     other j d apart true e true f =
         absurd (apart (sym (same-number i j e)) (sym (same-number c d f)))
     other j d apart true e false f = subst

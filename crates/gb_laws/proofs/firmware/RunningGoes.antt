@@ -1,68 +1,48 @@
--- What is known of the downloads that run is kept where one begins, goes on or is done.
-use Rattle.std.proofs.Common.{Bool, List, None, Some, ap, ap₂, cond, false, inl, inr, length, refl}
-use Rattle.std.proofs.Common.{subst, sym, true, ℕ, ⊎_elim, [], ◌++◌, ◌+◌, ◌<◌, ◌∙◌, ◌∷◌, ◌≡◌, ◌≢◌}
-use Rattle.std.proofs.Common.{◌≤◌, ◌⊎◌}
+-- What is known of the downloads that run is kept where one goes on or is done.
+use Rattle.std.proofs.Common.{List, None, Some, ap, ap₂, refl, subst, sym, true, ℕ, ⊎_elim, ◌++◌}
+use Rattle.std.proofs.Common.{◌<◌, ◌∙◌, ◌≡◌, ◌≤◌}
 use Rattle.std.specs.List.{find}
-use Rattle.std.specs.Prelude.{Err, Ok, min, ◌&&◌, ◌==◌}
+use Rattle.std.specs.Prelude.{◌==◌}
 use Rattle.gb_base.specs.declared.download.Next.TheVariants as next
 use Rattle.gb_base.specs.declared.end.End.TheVariants as end
-use Rattle.gb_base.specs.declared.end.Side.TheVariants as side
 use Rattle.gb_base.specs.declared.served.OwnAsk.{OwnAsk}
-use Rattle.gb_formats.specs.FirmwareRecords.{FirmwareAsk, read_firmware_ask}
-use Rattle.gb_formats.specs.Loader.{Awaits, Download, Loader, loader_begun}
-use Rattle.gb_formats.specs.Message.{message_size, request, spelling}
+use Rattle.gb_formats.specs.FirmwareRecords.{read_firmware_ask}
+use Rattle.gb_formats.specs.Loader.{Download, Loader}
 use Rattle.gb_formats.specs.Module.{Module}
-use Rattle.gb_formats.specs.ModuleLoads.{if_may_ask, module_load}
-use Rattle.gb_formats.specs.Records.{PayloadFault}
 use Rattle.gb_formats.specs.ValidEvents.{IsTag}
-use Rattle.gb_machine.specs.Asking.{asked}
-use Rattle.gb_machine.specs.Bus.{Connection, connection_of, end_of, next_number, other_side}
+use Rattle.gb_machine.specs.Bus.{Connection, connection_of, next_number}
 use Rattle.gb_machine.specs.LawsBus.{AreApart}
 use Rattle.gb_machine.specs.LawsFirmware.{Follow, WasAsked, WasClean, range_in, range_of, ranges_of}
-use Rattle.gb_machine.specs.Lists.{without}
-use Rattle.gb_machine.specs.Loading.{is_load_at, is_trail_at, last_asked}
+use Rattle.gb_machine.specs.Loading.{is_trail_at}
 use Rattle.gb_machine.specs.Members.{EachTwo, IsIn}
 use Rattle.gb_machine.specs.Modules.{with_module}
-use Rattle.gb_machine.specs.Runs.{IsMoment, Moment}
-use Rattle.gb_machine.specs.Sending.{Draft, is_lost, label_for, requested}
+use Rattle.gb_machine.specs.Runs.{Moment}
+use Rattle.gb_machine.specs.Sending.{Draft, label_for, requested}
 use Rattle.gb_machine.specs.State.{Load, State, Trail}
 use Rattle.gb_invariants.proofs.Awaiting.{none-some, same-some}
-use Rattle.gb_invariants.proofs.Lists.{each-in, found-in, in-behind, in-pushed, in-without}
-use Rattle.gb_invariants.proofs.Lists.{not-both}
+use Rattle.gb_invariants.proofs.Lists.{each-in, found-in}
 use Rattle.gb_invariants.proofs.Numbers.{found-number}
-use Rattle.gb_invariants.proofs.Outcomes.{both-true, is-same, same-number}
-use Rattle.gb_invariants.proofs.Selves.{svc-no-module}
+use Rattle.gb_invariants.proofs.Outcomes.{both-true, same-number}
 use Rattle.gb_invariants.specs.Facts.{BusFits, IsMade, Loose}
-use Rattle.gb_laws.proofs.firmware.FirmwareOnward.{Onward, UncleanAreKnown}
+use Rattle.gb_laws.proofs.firmware.MomentToPoint.{FromBefore, UncleanAreKnown}
 use Rattle.gb_laws.proofs.firmware.HeardBack.{Heard, heard}
-use Rattle.gb_laws.proofs.firmware.LoaderSteps.{ChangesIn, asks-step, begun, changes-in}
-use Rattle.gb_laws.proofs.firmware.NextPieces.{Finished, FollowsSo, GoesOn, Piece, Went}
-use Rattle.gb_laws.proofs.firmware.NextPieces.{behind_fetch, behind_find, last, more}
+use Rattle.gb_laws.proofs.firmware.NextPieces.{Finished, GoesOn, Piece, Went, behind_fetch}
+use Rattle.gb_laws.proofs.firmware.NextPieces.{behind_find, last, more}
 use Rattle.gb_laws.proofs.firmware.PiecesKnown.{goes-known}
 use Rattle.gb_laws.proofs.firmware.Running.{AsksFor, FitsAt, HasSoFar, IsFresh, IsGood, QuietAt}
 use Rattle.gb_laws.proofs.firmware.Running.{RunAt, RunIn, Running, reached}
+use Rattle.gb_laws.proofs.firmware.RunningAsks.{asked-now, other-load, run-other}
 use Rattle.gb_laws.proofs.firmware.RunningKept.{one-or_apart}
 use Rattle.gb_laws.proofs.firmware.RunningMoved.{trails-kept}
-use Rattle.gb_laws.proofs.firmware.RunningNew.{Apart, first-aside, first-found, longer}
-use Rattle.gb_laws.proofs.firmware.RunningNew.{longer-aside, longer-found, new-only, run-new}
+use Rattle.gb_laws.proofs.firmware.RunningNew.{Apart, longer, longer-aside, longer-found, new-only}
+use Rattle.gb_laws.proofs.firmware.RunningNew.{run-new}
 use Rattle.gb_laws.proofs.firmware.RunningStays.{run-moved}
-use Rattle.gb_laws.proofs.links.LinkFrom.{Linked}
 use Rattle.gb_laws.proofs.opened.OpeningTold.{told-stays}
-use Rattle.gb_laws.proofs.points.PointParts.{Basis, Point, asked_told, loose}
-use Rattle.gb_laws.proofs.points.Points.{Change, HearsBack, IsAskedBy, IsFarAsking, IsGoing, IsIdle}
-use Rattle.gb_laws.proofs.points.Points.{asks, begins, by_loader, changed, continues, finishes}
-use Rattle.gb_laws.proofs.points.Points.{loader_in}
+use Rattle.gb_laws.proofs.points.PointParts.{Basis, Point, loose}
+use Rattle.gb_laws.proofs.points.Points.{HearsBack, IsAskedBy, IsFarAsking, IsGoing, IsIdle, asks}
+use Rattle.gb_laws.proofs.points.Points.{by_loader, changed, continues, finishes, loader_in}
 
 -- ---- the next request
-
--- FIND has no range
-find-range : (payload : List ℕ) → range_in (read_firmware_ask 0x01 payload) ≡ []
-find-range payload = by (length payload == 10)
-  where
-    by : (t : Bool) → range_in (cond t (Ok (FirmwareAsk.Find payload))
-        (Err (PayloadFault.Mismatch (min (length payload) (10 + 1))))) ≡ []
-    by true = refl
-    by false = refl
 
 piece-asks : (id size : ℕ) (d e : Download) (own : OwnAsk) (draft : Draft) (label : ℕ)
     → draft.kind ≡ own.kind → draft.payload ≡ own.payload → Piece id size d own e
@@ -90,157 +70,13 @@ goes-all d e payload own So h (behind_find id size at read p) = h id size d refl
 goes-all d e payload own So h (behind_fetch id size at long p) =
     h id size (record d { bytes = d.bytes ++ payload }) refl p
 
--- ---- a request of a firmware device
-
--- the last request of another one stays
-other-load : (i p n : ℕ) (loads : List Load) (l : Load) → IsIn l (last_asked i p n loads)
-    → (IsIn l loads × Apart l.intf l.cport i p)
-    ⊎ (l ≡ record { intf = i; cport = p; request = n })
-other-load i p n loads l j = ⊎_elim
-    (λ o. let w = in-without (is_load_at i p) loads l o in inl (w.0, apart w.1)) (λ e. inr e)
-    (in-pushed l (without (is_load_at i p) loads) (record { intf = i; cport = p; request = n }) j)
-  where
-    apart : is_load_at i p l ≡ false → Apart l.intf l.cport i p
-    apart f e g = not-both (is_load_at i p l)
-        (ap (λ b. b && (l.cport == p)) (ap (λ x. x == i) e ∙ is-same i) ∙ ap (λ x. x == p) g
-        ∙ is-same p) f
-
-same-module : (i p j d : ℕ) → end.Module i p ≡ end.Module j d → (i ≡ j) × (p ≡ d)
-same-module i p j d e = (cc, cc)
-
-module _ (m : Moment) (a : Point) (basis : Basis a) (on : Onward m a) (runs : RunIn m a)
-    (d : Draft) (c : Connection) (label : ℕ) (free : a.hand ≡ None)
-    (live : connection_of d.connection a.state.bus ≡ Some c)
-    (drawn : label_for d a.state.bus ≡ Some label) (who : IsAskedBy m a c d) where
-  abbrev ask : Change m a
-  ask = asks d c label free live drawn who
-
-  abbrev after : State
-  after = (changed m a ask).state
-
-  abbrev Runs : Load → Download → Type 0
-  Runs l e = Running (FitsAt m) m.before.bus.connections (changed m a ask).hand
-      (changed m a ask).told after l e
-
-  c_live : IsIn c a.state.bus.connections × (c.number ≡ d.connection)
-  c_live = found-number d.connection a.state.bus c live
-
-  -- what is told of the request
-  asked-now : (i p : ℕ) → d.side ≡ side.Far → c.peer ≡ end.Module i p
-      → WasAsked (changed m a ask).told (next_number a.state.bus) (end.Module i p)
-  asked-now i p far peer = subst (WasAsked (changed m a ask).told (next_number a.state.bus))
-      (ap (λ s. end_of s c) far ∙ peer) (record {
-        to = end_of (other_side d.side) c;
-        kind = d.kind;
-        size = message_size d.payload;
-        bytes = spelling (request label d.kind d.payload);
-        lost = is_lost d a.state.bus;
-        said = in-behind (asked d c label a.state.bus) a.told (asked_told d c label a.state.bus)
-            (inl refl);
-      })
-
-  -- another download is none of its business
-  run-other : (i p : ℕ) (l : Load) (e : Download)
-      → Running (FitsAt m) m.before.bus.connections a.hand a.told a.state l e
-      → c.peer ≡ end.Module i p
-      → Apart l.intf l.cport i p
-      → find (is_trail_at l.intf l.cport) after.past.loading
-      ≡ find (is_trail_at l.intf l.cport) a.state.past.loading → Runs l e
-  run-other i p l e run peer apart same = run-moved m a ask l e basis on run
-      (λ n at brings. let s = same-module l.intf l.cport i p
-      (sym (run.far c c_live.0 (c_live.1 ∙ at)) ∙ peer) in apart s.0 s.1) same
-
-pub begins-kept : (m : Moment) (a : Point) → IsMoment m.event → Linked m.before.bus m.before.host []
-    → (before : List Loose) → BusFits before m.before.bus → Basis a → Onward m a → RunIn m a
-    → (d : Draft) (c : Connection) (label : ℕ) (free : a.hand ≡ None)
-    (live : connection_of d.connection a.state.bus ≡ Some c)
-    (drawn : label_for d a.state.bus ≡ Some label) (i p : ℕ) (x : Module)
-    (going : IsGoing m a.state c d (begins i p x)) (far : IsFarAsking m c d)
-    (wired : (c.wired ≡ true) × (d.kind < 128))
-    → RunIn m (changed m a (asks d c label free live drawn (by_loader (begins i p x) going far
-    wired)))
-begins-kept m a one links before was basis on runs d c label free live drawn i p x going far wired l
-    j r at e ran = ⊎_elim old new (other-load i p (next_number a.state.bus) a.state.loads l j)
-  where
-    who : IsAskedBy m a c d
-    who = by_loader (begins i p x) going far wired
-
-    Runs : Load → Download → Type 0
-    Runs l e = Running (FitsAt m) m.before.bus.connections
-        (changed m a (asks d c label free live drawn who)).hand
-        (changed m a (asks d c label free live drawn who)).told
-        (changed m a (asks d c label free live drawn who)).state l e
-
-    tag : List ℕ
-    tag = going.0
-
-    loader : Loader
-    loader = going.7
-
-    changes : ChangesIn i p loader (loader_begun tag loader) a.state.modules
-        (with_module i x a.state.modules)
-    changes = subst (λ y. ChangesIn i p loader (loader_begun tag loader) a.state.modules
-        (with_module i y a.state.modules)) (sym going.6)
-        (changes-in i p loader (loader_begun tag loader) a.state.modules going.1
-        (module_load going.1 p tag) going.5 (begun going.1 p tag loader going.8))
-
-    old : IsIn l a.state.loads × Apart l.intf l.cport i p → Runs l e
-    old o = run-other m a basis on runs d c label free live drawn who i p l e
-        (runs l o.0 r (sym (changes.others l.intf l.cport o.1) ∙ at) e ran) going.4 o.1
-        (first-aside i p d.connection (next_number a.state.bus) l.intf l.cport
-        a.state.past.loading (λ s t. o.1 (sym s) (sym t)))
-
-    c_live : IsIn c a.state.bus.connections × (c.number ≡ d.connection)
-    c_live = found-number d.connection a.state.bus c live
-
-    other : d.connection ≢ 1
-    other s = svc-no-module (sym (links.svc c
-        (subst (λ (t : State). IsIn c t.bus.connections) going.3 c_live.0) (c_live.1 ∙ s)).peer
-        ∙ going.4)
-
-    first : Download
-    first = record { tag = tag; awaits = Awaits.Find; bytes = [] }
-
-    fresh : Runs (record { intf = i; cport = p; request = next_number a.state.bus }) first
-    fresh = subst (λ h. Running (FitsAt m) m.before.bus.connections h
-        (changed m a (asks d c label free live drawn who)).told
-        (changed m a (asks d c label free live drawn who)).state
-        (record { intf = i; cport = p; request = next_number a.state.bus }) first) (sym free)
-        (run-new a.state (changed m a (asks d c label free live drawn who)).state d label refl
-        (loose a) basis.bus before m.before was on.requests going.10.0
-        (subst (λ n. n ≤ a.state.bus.made) c_live.1 (each-in (IsMade a.state.bus)
-        a.state.bus.connections c basis.bus.numbers.range c_live.0).1) a.told
-        (changed m a (asks d c label free live drawn who)).told
-        (told-stays m a (asks d c label free live drawn who)) (FitsAt m)
-        (record { intf = i; cport = p; request = next_number a.state.bus }) first c
-        (record {
-          intf = i;
-          cport = p;
-          connection = d.connection;
-          requests = next_number a.state.bus ∷ [];
-        }) [] 0 refl c_live.0 c_live.1 going.4 refl refl
-        (first-found i p d.connection (next_number a.state.bus) a.state.past.loading) tt other
-        (subst IsMoment going.2 one).2 refl (going.10.1, going.10.2)
-        (asked-now m a basis on runs d c label free live drawn who i p going.10.0 going.4)
-        (λ w. (
-          refl,
-          subst (λ rs. Follow 0 rs 0) (sym (ap (λ k. range_in (read_firmware_ask k
-              d.payload)) going.10.1 ∙ find-range d.payload)) refl,
-          tt,
-        )))
-
-    new : l ≡ record { intf = i; cport = p; request = next_number a.state.bus } → Runs l e
-    new s = subst (λ k. Runs k e) (sym s) (subst (Runs _) (same-some first e
-        (ap (λ (k : Loader). k.running) (same-some (loader_begun tag loader) r
-        (sym changes.is ∙ subst (λ (k : Load). loader_in k.intf k.cport
-        (with_module i x a.state.modules) ≡ Some r) s at)) ∙ ran)) fresh)
-
 -- ---- what goes on
 
 module _ (m : Moment) (a : Point) (rested : RunAt m.told m.before)
     (remembered : UncleanAreKnown m.before)
     (apart : EachTwo AreApart m.before.bus.connections) (before : List Loose)
-    (was : BusFits before m.before.bus) (basis : Basis a) (on : Onward m a) (runs : RunIn m a) where
+    (was : BusFits before m.before.bus) (basis : Basis a) (on : FromBefore m a)
+    (runs : RunIn m a) where
   pub continues-kept : (d : Draft) (c : Connection) (label : ℕ) (free : a.hand ≡ None)
       (live : connection_of d.connection a.state.bus ≡ Some c)
       (drawn : label_for d a.state.bus ≡ Some label) (i p : ℕ) (x : Module)
@@ -266,20 +102,10 @@ module _ (m : Moment) (a : Point) (rested : RunAt m.told m.before)
       own = going.0
 
       h : Heard m a i p x (next.Ask own)
-      h = heard m a rested remembered apart on runs i p x (next.Ask own) going.2
-
-      step : (h.loaded.next ≡ next.Ask own)
-          × ((if_may_ask h.state h.loaded).after ≡ h.loaded.after)
-      step = asks-step h.state h.loaded (next.Ask own) h.next (λ tag e. absurd cc)
+      h = heard m a rested remembered apart on runs i p x (next.Ask own) going.2 tt
 
       went : Went h.answered.download h.payload own h.before h.loaded.after
-      went = subst (FollowsSo h.answered.download h.payload h.before h.loaded.after) step.0
-          h.answered.follows
-
-      changes : ChangesIn i p h.before h.loaded.after a.state.modules
-          (with_module i x a.state.modules)
-      changes = subst (λ k. ChangesIn i p h.before k a.state.modules
-          (with_module i x a.state.modules)) step.1 h.changes
+      went = h.follows
 
       c_live : IsIn c a.state.bus.connections × (c.number ≡ d.connection)
       c_live = found-number d.connection a.state.bus c live
@@ -289,7 +115,7 @@ module _ (m : Moment) (a : Point) (rested : RunAt m.told m.before)
 
       old : IsIn l a.state.loads × Apart l.intf l.cport i p → Runs l e
       old o = run-other m a basis on runs d c label free live drawn who i p l e
-          (runs l o.0 r (sym (changes.others l.intf l.cport o.1) ∙ at) e ran) going.1 o.1
+          (runs l o.0 r (sym (h.changes.others l.intf l.cport o.1) ∙ at) e ran) going.1 o.1
           (longer-aside i p (next_number a.state.bus) l.intf l.cport a.state.past.loading
           (λ s t. o.1 (sym s) (sym t)))
 
@@ -372,7 +198,7 @@ module _ (m : Moment) (a : Point) (rested : RunAt m.told m.before)
       new : l ≡ load → Runs l e
       new s = subst (λ k. Runs k e) (sym s) (subst (Runs load) (same-some went.download e
           (sym went.running ∙ ap (λ (k : Loader). k.running) (same-some h.loaded.after r
-          (sym changes.is ∙ subst (λ (k : Load). loader_in k.intf k.cport
+          (sym h.changes.is ∙ subst (λ (k : Load). loader_in k.intf k.cport
           (with_module i x a.state.modules) ≡ Some r) s at)) ∙ ran)) fresh)
 
   pub finishes-kept : (i p : ℕ) (x : Module) (tag : List ℕ) (size : ℕ) (idle : IsIdle a)
@@ -382,20 +208,10 @@ module _ (m : Moment) (a : Point) (rested : RunAt m.told m.before)
       ⊎_elim here there (one-or_apart l.intf l.cport i p)
     where
       h : Heard m a i p x (next.Done tag size)
-      h = heard m a rested remembered apart on runs i p x (next.Done tag size) hears
-
-      step : (h.loaded.next ≡ next.Done tag size)
-          × ((if_may_ask h.state h.loaded).after ≡ h.loaded.after)
-      step = asks-step h.state h.loaded (next.Done tag size) h.next (λ tag e. absurd cc)
+      h = heard m a rested remembered apart on runs i p x (next.Done tag size) hears tt
 
       done : Finished h.answered.download tag size h.loaded.after
-      done = subst (FollowsSo h.answered.download h.payload h.before h.loaded.after) step.0
-          h.answered.follows
-
-      changes : ChangesIn i p h.before h.loaded.after a.state.modules
-          (with_module i x a.state.modules)
-      changes = subst (λ k. ChangesIn i p h.before k a.state.modules
-          (with_module i x a.state.modules)) step.1 h.changes
+      done = h.follows
 
       Runs : Type 0
       Runs = Running (FitsAt m) m.before.bus.connections a.hand
@@ -407,10 +223,10 @@ module _ (m : Moment) (a : Point) (rested : RunAt m.told m.before)
           let at_own = subst (λ k. loader_in k p (with_module i x a.state.modules) ≡ Some r) s.0
           (subst (λ k. loader_in l.intf k (with_module i x a.state.modules) ≡ Some r) s.1 at) in
           absurd (none-some (sym done.running
-          ∙ ap (λ (k : Loader). k.running) (same-some h.loaded.after r (sym changes.is ∙ at_own))
+          ∙ ap (λ (k : Loader). k.running) (same-some h.loaded.after r (sym h.changes.is ∙ at_own))
           ∙ ran))
 
       there : Apart l.intf l.cport i p → Runs
       there o = run-moved m a (finishes i p x tag size idle hears) l e basis on
-          (runs l j r (sym (changes.others l.intf l.cport o) ∙ at) e ran) (λ n f brings. brings)
+          (runs l j r (sym (h.changes.others l.intf l.cport o) ∙ at) e ran) (λ n f brings. brings)
           refl

@@ -21,7 +21,7 @@ use Rattle.gb_invariants.proofs.Lists.{in-without, not-both}
 use Rattle.gb_invariants.proofs.Numbers.{found-number}
 use Rattle.gb_invariants.proofs.Outcomes.{both-true, is-same, same-number}
 use Rattle.gb_invariants.proofs.Selves.{ap-no-far}
-use Rattle.gb_laws.proofs.firmware.FirmwareOnward.{Onward, SameDownloads, awaited-downloads}
+use Rattle.gb_laws.proofs.firmware.MomentToPoint.{FromBefore, SameDownloads, awaited-downloads}
 use Rattle.gb_laws.proofs.firmware.FirmwareQueues.{BringsTo}
 use Rattle.gb_laws.proofs.firmware.Running.{FitsAt, RunIn, Running}
 use Rattle.gb_laws.proofs.firmware.RunningNew.{Apart}
@@ -85,8 +85,8 @@ none-comes m a (replies h q y is made twoway) plain l d r at run n on brings =
 none-comes m a (injects i c p bytes free named) plain l d r at run n on brings = absurd cc
 none-comes m a _ plain l d r at run n on brings = absurd brings
 
-pub aside-kept : (m : Moment) (a : Point) (x : Change m a) → IsAside m a x → Basis a → Onward m a
-    → RunIn m a → RunIn m (changed m a x)
+pub aside-kept : (m : Moment) (a : Point) (x : Change m a) → IsAside m a x → Basis a
+    → FromBefore m a → RunIn m a → RunIn m (changed m a x)
 aside-kept m a x plain basis on runs l i r at d ran =
     run-moved m a x l d basis on run
     (none-comes m a x plain l d r was run)
@@ -122,7 +122,7 @@ unrunning r s d e none ran =
 
 pub others-kept : (m : Moment) (a : Point) (booted : Bool) (marks : List ℕ) (ports : List Port)
     (modules : List Plugged) (same : IsElse m a booted marks ports modules
-    × KeepLoaders a.state.modules modules) → Basis a → Onward m a → RunIn m a
+    × KeepLoaders a.state.modules modules) → Basis a → FromBefore m a → RunIn m a
     → RunIn m (changed m a (others booted marks ports modules same))
 others-kept m a booted marks ports modules same basis on runs l i r at d ran =
     run-moved m a (others booted marks ports modules same) l d basis on
@@ -142,7 +142,7 @@ others-kept m a booted marks ports modules same basis on runs l i r at d ran =
         (sym (same-some (loader_failed s) r (sym failed ∙ at))) refl ran)
 
 pub unloads-kept : (m : Moment) (a : Point) (i : ℕ) (of : IsOfSvc m.event)
-    (gone : module_at i a.state.modules ≡ None) → Basis a → Onward m a → RunIn m a
+    (gone : module_at i a.state.modules ≡ None) → Basis a → FromBefore m a → RunIn m a
     → RunIn m (changed m a (unloads i of gone))
 unloads-kept m a i of gone basis on runs l j r at d ran =
     let w = in-without (λ (x : Load). x.intf == i) a.state.loads l j in

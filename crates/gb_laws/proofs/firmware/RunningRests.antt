@@ -19,13 +19,60 @@ use Rattle.gb_invariants.proofs.Awaiting.{none-some, same-some}
 use Rattle.gb_invariants.proofs.ItemChanges.{first-in}
 use Rattle.gb_invariants.proofs.Lists.{not-both}
 use Rattle.gb_invariants.specs.Facts.{BusFits, Loose, is_numbered}
-use Rattle.gb_laws.proofs.firmware.FirmwareOnward.{UncleanAreKnown}
+use Rattle.gb_laws.proofs.firmware.MomentToPoint.{UncleanAreKnown}
 use Rattle.gb_laws.proofs.firmware.ImageFacts.{AreShort, LentAs, image-short}
-use Rattle.gb_laws.proofs.firmware.Running.{AreRunning, AsksFor, Fetches, FitsAt, Free, HasPart}
-use Rattle.gb_laws.proofs.firmware.Running.{HasSoFar, IsGood, QuietAt, Replied, RunAt, Running}
+use Rattle.gb_laws.proofs.firmware.Running.{AreRunning, AsksFor, Fetches, Fits, FitsAt, FoundIt}
+use Rattle.gb_laws.proofs.firmware.Running.{Free, HasPart, HasSoFar, IsGood, QuietAt, Replied}
+use Rattle.gb_laws.proofs.firmware.Running.{RunAt, Running}
 use Rattle.gb_laws.proofs.firmware.ServedImages.{fetch-images}
 use Rattle.gb_laws.proofs.points.Places.{place-is}
 use Rattle.gb_laws.proofs.points.PointParts.{IsServed}
+
+-- ---- where something else is said of ids
+
+part-with : (fits other : Fits) (s : State) (w k id size : ℕ) (d : Download)
+    → HasPart fits s w k id size d → other k id d.tag → HasPart other s w k id size d
+part-with fits other s w k id size d h suits = record {
+  image = h.image;
+  given = h.given;
+  whole = h.whole;
+  bytes = h.bytes;
+  less = h.less;
+  lent = h.lent;
+  suits = suits;
+  only = h.only;
+}
+
+found-with : (fits other : Fits) (s : State) (k : ℕ) (d : Download) (p : List ℕ)
+    (g : FoundIt fits s k d p) → other k g.id d.tag → FoundIt other s k d p
+found-with fits other s k d p g suits = record {
+  id = g.id;
+  image = g.image;
+  given = g.given;
+  is = g.is;
+  lent = g.lent;
+  suits = suits;
+}
+
+running-with : (fits other : Fits) (old now : List Connection) (told : List Entry) (s : State)
+    (l : Load) (d : Download) (run : Running fits old None told s l d)
+    → (WasClean run.trail.connection s → Fetches other now None s l.request run.trail d)
+    → Running other now None told s l d
+running-with fits other old now told s l d run clean = record {
+  trail = run.trail;
+  found = run.found;
+  made = run.made;
+  request = run.request;
+  is = run.is;
+  connection = run.connection;
+  side = run.side;
+  asks = run.asks;
+  far = run.far;
+  other = run.other;
+  tag = run.tag;
+  fresh = run.fresh;
+  clean = clean;
+}
 
 -- ---- from a state at rest
 
@@ -116,32 +163,18 @@ module _ (m : Moment) (before : List Loose) (fits : BusFits before m.before.bus)
         → HasSoFar Free m.before l.request run.trail.connection v d
         → HasSoFar (FitsAt m) m.before l.request run.trail.connection v d
     has-fits Awaits.Find asked h = tt
-    has-fits (Awaits.Fetch id size) asked h = record {
-      image = h.image;
-      given = h.given;
-      whole = h.whole;
-      bytes = h.bytes;
-      less = h.less;
-      lent = h.lent;
-      suits = part-fits id size h asked;
-      only = h.only;
-    }
+    has-fits (Awaits.Fetch id size) asked h = part-with Free (FitsAt m) m.before l.request
+        run.trail.connection id size d h (part-fits id size h asked)
     has-fits Awaits.Release asked h = h
 
     -- and nothing is served where nothing waits
     good-fits : (v : Awaits) (p : List ℕ) → QuietAt run.trail.connection m.before.bus
         → IsGood Free m.before run.trail.connection v d p
         → IsGood (FitsAt m) m.before run.trail.connection v d p
-    good-fits Awaits.Find p quiet g = record {
-      id = g.id;
-      image = g.image;
-      given = g.given;
-      is = g.is;
-      lent = g.lent;
-      suits = λ kind payload s.
-          let a = serves-ask run.trail.connection kind payload w s in
-          absurd (quiet a.connection a.live a.number a.asked a.waits);
-    }
+    good-fits Awaits.Find p quiet g =
+        found-with Free (FitsAt m) m.before run.trail.connection d p g
+        (λ kind payload s. let a = serves-ask run.trail.connection kind payload w s in
+        absurd (quiet a.connection a.live a.number a.asked a.waits))
     good-fits (Awaits.Fetch id size) p quiet g = g
     good-fits Awaits.Release p quiet g = tt
 
@@ -159,50 +192,22 @@ module _ (m : Moment) (before : List Loose) (fits : BusFits before m.before.bus)
   pub runs-start : RunAt m.told m.before
       → AreRunning (FitsAt m) m.before.bus.connections None m.told m.before
   runs-start h l i r at d ran =
-      let run = h l i r at d ran in record {
-        trail = run.trail;
-        found = run.found;
-        made = run.made;
-        request = run.request;
-        is = run.is;
-        connection = run.connection;
-        side = run.side;
-        asks = run.asks;
-        far = run.far;
-        other = run.other;
-        tag = run.tag;
-        fresh = run.fresh;
-        clean = λ w. fetches-fits l d run w (run.clean w);
-      }
+      let run = h l i r at d ran in
+      running-with Free (FitsAt m) m.before.bus.connections m.before.bus.connections m.told m.before
+      l d run (λ w. fetches-fits l d run w (run.clean w))
 
 -- ---- to a state at rest
 
-module _ (fits : ℕ → ℕ → List ℕ → Type 0) (old : List Connection) (s : State) where
+module _ (fits : Fits) (old : List Connection) (s : State) where
   has-free : (w k : ℕ) (v : Awaits) (d : Download) → HasSoFar fits s w k v d
       → HasSoFar Free s w k v d
   has-free w k Awaits.Find d h = tt
-  has-free w k (Awaits.Fetch id size) d h = record {
-    image = h.image;
-    given = h.given;
-    whole = h.whole;
-    bytes = h.bytes;
-    less = h.less;
-    lent = h.lent;
-    suits = tt;
-    only = h.only;
-  }
+  has-free w k (Awaits.Fetch id size) d h = part-with fits Free s w k id size d h tt
   has-free w k Awaits.Release d h = h
 
   good-free : (k : ℕ) (v : Awaits) (d : Download) (p : List ℕ) → IsGood fits s k v d p
       → IsGood Free s k v d p
-  good-free k Awaits.Find d p g = record {
-    id = g.id;
-    image = g.image;
-    given = g.given;
-    is = g.is;
-    lent = g.lent;
-    suits = tt;
-  }
+  good-free k Awaits.Find d p g = found-with fits Free s k d p g tt
   good-free k (Awaits.Fetch id size) d p g = g
   good-free k Awaits.Release d p g = tt
 
@@ -226,18 +231,6 @@ module _ (fits : ℕ → ℕ → List ℕ → Type 0) (old : List Connection) (s
   -- What is known at the last point of a moment is known behind it.
   pub runs-end : (told : List Entry) → AreRunning fits old None told s → RunAt told s
   runs-end told h l i r at d ran =
-      let run = h l i r at d ran in record {
-        trail = run.trail;
-        found = run.found;
-        made = run.made;
-        request = run.request;
-        is = run.is;
-        connection = run.connection;
-        side = run.side;
-        asks = run.asks;
-        far = run.far;
-        other = run.other;
-        tag = run.tag;
-        fresh = run.fresh;
-        clean = λ w. fetches-free l.request run.trail d (run.clean w);
-      }
+      let run = h l i r at d ran in
+      running-with fits Free old s.bus.connections told s l d run
+      (λ w. fetches-free l.request run.trail d (run.clean w))

@@ -6,7 +6,7 @@ use Rattle.std.specs.Prelude.{Err, Ok, Result, drop, option_and_then, option_map
 use Rattle.gb_base.specs.declared.end.End.TheVariants as end
 use Rattle.gb_base.specs.declared.end.Side.{Side}
 use Rattle.gb_base.specs.declared.end.Side.TheVariants as side
-use Rattle.gb_base.specs.declared.fault.RawFault.{RawFault}
+use Rattle.gb_base.specs.declared.reasons.RawFault.{RawFault}
 use Rattle.gb_formats.specs.Images.{Image, Images, has_tag, image_of, lent_bytes, lent_tag}
 use Rattle.gb_formats.specs.Loader.{Awaits, Download, padded, piece}
 use Rattle.gb_formats.specs.Message.{Message}
@@ -32,7 +32,7 @@ use Rattle.gb_invariants.proofs.ItemChanges.{first-in}
 use Rattle.gb_invariants.proofs.Numbers.{in-changed, same-connection}
 use Rattle.gb_invariants.proofs.Selves.{far-no-ap}
 use Rattle.gb_invariants.specs.Facts.{IsMadeOn, IsOwn}
-use Rattle.gb_laws.proofs.firmware.FirmwareOnward.{Onward, TakenAt, one-place, unclean-kept}
+use Rattle.gb_laws.proofs.firmware.MomentToPoint.{FromBefore, TakenAt, one-place, unclean-kept}
 use Rattle.gb_laws.proofs.firmware.FirmwareQueues.{BringsTo, NoAsks, front-none}
 use Rattle.gb_laws.proofs.firmware.HostImages.{ImagesFrom, added, fewer, images-from, stepped}
 use Rattle.gb_laws.proofs.firmware.ImageFacts.{LentAs, fewer-as, given-stays, image-short}
@@ -173,7 +173,7 @@ served-hand m b h w request k kind payload taken own made keeps served = (
 
 -- the answer that is given is that of the application processor to the request of the download
 module _ (m : Moment) (a : Point) (h : Hand) (l : Load) (d : Download) (request : Request)
-    (k w : ℕ) (on : Onward m a) (taken : TakenAt m h) (own : h.item ≡ Ask w)
+    (k w : ℕ) (on : FromBefore m a) (taken : TakenAt m h) (own : h.item ≡ Ask w)
     (made : request_of w a.state.bus ≡ Some request) (tag : IsTag d.tag)
     (host : a.state.host ≡ m.before.host) (p : List ℕ)
     (done : (host_serves k request.kind request.payload m.before.host).answer.result ≡ success)
@@ -248,7 +248,7 @@ module _ (m : Moment) (a : Point) (h : Hand) (l : Load) (d : Download) (request 
 -- ---- a single change
 
 -- what an answer to the request says where it comes
-comes : (m : Moment) (a : Point) (x : Change m a) (l : Load) (d : Download) → Onward m a
+comes : (m : Moment) (a : Point) (x : Change m a) (l : Load) (d : Download) → FromBefore m a
     → (run : Running (FitsAt m) m.before.bus.connections a.hand a.told a.state l d)
     → Fetches (FitsAt m) m.before.bus.connections a.hand a.state l.request run.trail d
     → (p : List ℕ) → number_of (bus_change x) ≡ run.trail.connection
@@ -358,7 +358,7 @@ takes-quiet m a x l d basis run none low f h e ap_side own =
 
 -- What is known of a running download stays where no request comes on its connection.
 pub run-moved : (m : Moment) (a : Point) (x : Change m a) (l : Load) (d : Download) → Basis a
-    → Onward m a → (run : Running (FitsAt m) m.before.bus.connections a.hand a.told a.state l d)
+    → FromBefore m a → (run : Running (FitsAt m) m.before.bus.connections a.hand a.told a.state l d)
     → ((n : ℕ) → number_of (bus_change x) ≡ run.trail.connection
     → BringsTo (bus_change x) a.state.bus side.Ap (Ask n) → ⊥)
     → find (is_trail_at l.intf l.cport) (changed m a x).state.past.loading

@@ -4,7 +4,7 @@ use Rattle.std.proofs.Common.{subst, sym, true, ℕ, ◌++◌, ◌+◌, ◌∙�
 use Rattle.std.proofs.lemmas.Bool.Decides.{nat_tests}
 use Rattle.std.specs.Prelude.{Err, Ok, drop, min, nat_lt, take, ◌==◌, ◌||◌}
 use Rattle.byteorder.specs.Endian.{little_number}
-use Rattle.gb_base.specs.declared.peers.Link.{Link}
+use Rattle.gb_base.specs.declared.interface.Link.{Link}
 use Rattle.gb_formats.specs.FirmwareRecords.{FirmwareAsk, FirmwareReply, read_firmware_ask}
 use Rattle.gb_formats.specs.Images.{Images, fetch_step, find_step, finds, free_id, image_of}
 use Rattle.gb_formats.specs.Images.{images_read, images_step, is_astray, lends, lent_bytes, replies}

@@ -13,7 +13,7 @@ use Rattle.gb_invariants.proofs.{Lists.each-from, Lists.each-in}
 use Rattle.gb_invariants.specs.Facts.{IsMade}
 use Rattle.gb_laws.proofs.links.LinkRuns.{LinkedTo, linked-over, linked-throughout, start-absent}
 use Rattle.gb_laws.proofs.links.Links.{ArePending, IsFree, IsKnown, leaving, linked, supervisory}
-use Rattle.gb_laws.proofs.points.Points.{Change, Law, acts_opened, changed, upon}
+use Rattle.gb_laws.proofs.points.Points.{Change, Law, acts_made, changed, upon}
 use Rattle.gb_laws.proofs.runs.Runs.{HoldsByMoments, Keeps, throughout, weaker}
 use Rattle.gb_laws.proofs.{points.ChangeBuses.bus_change, points.ChangeBuses.by-bus}
 use Rattle.gb_laws.proofs.{links.LinkFrom.Linked}
@@ -27,12 +27,12 @@ ApartAt a = EachTwo AreApart a.state.bus.connections
 
 -- a new connection is apart from each that is live
 new-apart : {b : Bus} {h : Host} (w : Making) (q : Asking) (c : Connection)
-    → Linked b h (Act.Open w q ∷ []) → IsIn c b.connections → c.number ≤ b.made
+    → Linked b h (Act.Make w q ∷ []) → IsIn c b.connections → c.number ≤ b.made
     → IsFree w q h → AreApart c (new_connection (next_connection b) w.ap (end.Module w.intf w.cport)
     w.protocol)
 new-apart {b} {h} w q c links live high free = by (links.known c live)
   where
-    by : IsKnown c h.links (Act.Open w q ∷ [])
+    by : IsKnown c h.links (Act.Make w q ∷ [])
         → AreApart c (new_connection (next_connection b) w.ap (end.Module w.intf w.cport)
         w.protocol)
     by (supervisory one) = let s = links.svc c live one in record {
@@ -54,10 +54,10 @@ apart-kept m a x basis links h = by-bus (λ b. EachTwo AreApart b.connections) x
   where
     own : (x : Change m a) (c : Connection) → made_by (bus_change x) a.state.bus ≡ Some c
         → Each (λ y. AreApart y c) a.state.bus.connections
-    own (acts_opened w q rest free is) c e =
+    own (acts_made w q rest free is) c e =
         subst (λ z. Each (λ y. AreApart y z) a.state.bus.connections) (same-some _ c e)
         (each-from (λ y. AreApart y _) a.state.bus.connections (λ y live. new-apart w q y
-        (subst (λ r. Linked a.state.bus a.state.host (Act.Open w q ∷ r))
+        (subst (λ r. Linked a.state.bus a.state.host (Act.Make w q ∷ r))
         (subst (ArePending a.state.host) is links.pending).0.1
         (subst (Linked a.state.bus a.state.host) is links))
         live (each-in (IsMade a.state.bus) a.state.bus.connections y basis.bus.numbers.range live).1

@@ -19,7 +19,7 @@ use Rattle.gb_laws.proofs.{basis.Basics.none-made, links.LinkKept.InsertsAbsent}
 use Rattle.gb_laws.proofs.{links.LinkKept.LinkedAt}
 use Rattle.gb_laws.proofs.{links.LinkLaw.link_law, links.Links.ArePending, points.LowTypes.step-low}
 use Rattle.gb_laws.proofs.{points.PointParts.Point}
-use Rattle.gb_laws.proofs.{runs.Reached.reached-has, steps.Steps.over-step}
+use Rattle.gb_laws.proofs.{runs.OfStates.reached-has, steps.Steps.over-step}
 
 pub record IsLow (r : Request) : Type 0 where
   pub kind : r.kind < 128

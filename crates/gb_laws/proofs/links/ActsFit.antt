@@ -4,7 +4,7 @@ use Rattle.std.proofs.Common.{subst, sym, true, ℕ, [], ◌∙◌, ◌∷◌, �
 use Rattle.std.specs.Prelude.{◌==◌}
 use Rattle.gb_base.specs.declared.entry.{ConnState.ConnState, Entry.Entry}
 use Rattle.gb_base.specs.declared.host_event.HostEvent.TheVariants as host_event
-use Rattle.gb_base.specs.declared.peers.Link.{Link}
+use Rattle.gb_base.specs.declared.interface.Link.{Link}
 use Rattle.gb_base.specs.declared.steps.Purpose.{Purpose}
 use Rattle.gb_base.specs.declared.entry.ConnState.TheVariants as state
 use Rattle.gb_base.specs.declared.end.Side.TheVariants as side
@@ -60,7 +60,7 @@ pub ever-fit : (m : Moment) (b : Bus) (xs : List Act) → AreEverFit m xs → Ar
 ever-fit m b [] fit = tt
 ever-fit m b (Act.Shut k ∷ xs) fit = (fit.0 b, fit.1)
 ever-fit m b (Act.Ask q ∷ xs) fit = fit
-ever-fit m b (Act.Open w q ∷ xs) fit = fit
+ever-fit m b (Act.Make w q ∷ xs) fit = fit
 ever-fit m b (Act.Leave k ∷ xs) fit = fit
 ever-fit m b (Act.Tell e ∷ xs) fit = fit
 

@@ -3,9 +3,9 @@ use Rattle.std.proofs.Common.{Bool, List, None, Option, Some, ap, cond, false, i
 use Rattle.std.proofs.Common.{map, not, refl, sym, true, ℕ, [], ◌++◌, ◌∙◌, ◌∷◌, ◌≡◌}
 use Rattle.std.specs.List.{find}
 use Rattle.std.specs.Prelude.{Err, Ok, Result, drop, option_and_then, option_map, ◌&&◌, ◌==◌}
-use Rattle.gb_base.specs.declared.fault.Reason.{Reason}
-use Rattle.gb_base.specs.declared.fault.Reason.TheVariants as reason
-use Rattle.gb_base.specs.declared.peers.Interface.{Interface}
+use Rattle.gb_base.specs.declared.reasons.Reason.{Reason}
+use Rattle.gb_base.specs.declared.reasons.Reason.TheVariants as reason
+use Rattle.gb_base.specs.declared.interface.Interface.{Interface}
 use Rattle.gb_formats.specs.Manifest.{Manifest, check_answer, cport_view, descriptors_from}
 use Rattle.gb_formats.specs.Manifest.{header_refusal, manifest_after, manifest_of, manifest_unless}
 use Rattle.gb_formats.specs.ManifestRules.{Placed, Refused, breach, first_breach, first_of}

@@ -2,7 +2,7 @@
 use Rattle.std.proofs.Common.{Some, ap, ℕ, [], ◌∙◌}
 use Rattle.std.specs.Prelude.{option_map}
 use Rattle.gb_base.specs.declared.host_event.HostEvent.TheVariants as host_event
-use Rattle.gb_base.specs.declared.peers.Interface.{Interface}
+use Rattle.gb_base.specs.declared.interface.Interface.{Interface}
 use Rattle.gb_machine.specs.Host.{interfaces_of}
 use Rattle.gb_machine.specs.SvcQueues.{HandlesRemoval}
 use Rattle.gb_machine.specs.{Members.IsIn, Runs.Moment}

@@ -7,7 +7,7 @@ use Rattle.gb_laws.proofs.links.Draining.{FirstDrains, drains-changed, drains-pu
 use Rattle.gb_laws.proofs.links.Draining.{drains-unsent, drains-waiting}
 use Rattle.gb_laws.proofs.links.LinkActs.{ServedHost, as_before, awaited-host, host-served}
 use Rattle.gb_laws.proofs.links.LinkActs.{with_images, with_more}
-use Rattle.gb_laws.proofs.points.Points.{Change, acts_asked, acts_failed, acts_opened, changed}
+use Rattle.gb_laws.proofs.points.Points.{Change, acts_asked, acts_failed, acts_made, changed}
 use Rattle.gb_laws.proofs.points.Points.{serves}
 use Rattle.gb_laws.proofs.points.Points.{spends, turns}
 use Rattle.gb_laws.proofs.{links.LinkBuses.new_link, links.LinkHosts.credits-link}
@@ -20,7 +20,7 @@ FirstDrainsAt a = FirstDrains a.state.host.links
 pub draining-kept : {m : Moment} (a : Point) (x : Change m a) → FirstDrainsAt a
     → FirstDrainsAt (changed m a x)
 draining-kept a (turns e free untouched none cause) first = drains-turn e a.state.host first
-draining-kept a (acts_opened w q rest free is) first =
+draining-kept a (acts_made w q rest free is) first =
     drains-pushed a.state.host.links (new_link (next_connection a.state.bus) w) refl first
 draining-kept a (acts_asked q n rest is) first =
     subst (λ (g : Host). FirstDrains g.links) (sym (awaited-host q.purpose n a.state))

@@ -4,7 +4,7 @@ use Rattle.std.proofs.Common.{subst, sym, true, ℕ, ⊎_elim, [], ◌∙◌, �
 use Rattle.std.specs.Prelude.{Err, Ok, Result, ◌==◌}
 use Rattle.gb_base.specs.declared.end.End.TheVariants as end
 use Rattle.gb_base.specs.declared.entry.Entry.{Entry}
-use Rattle.gb_base.specs.declared.peers.{Interface.Interface, Link.Link}
+use Rattle.gb_base.specs.declared.interface.{Interface.Interface, Link.Link}
 use Rattle.gb_base.specs.declared.steps.{Purpose.Purpose, SequenceStep.SequenceStep}
 use Rattle.gb_base.specs.declared.steps.SequenceStep.TheVariants as steps
 use Rattle.gb_formats.specs.{GpioRecords.GpioAsk, GpioRecords.read_gpio_ask_of_module}
@@ -216,7 +216,7 @@ linked-unsent q {rest} {b} {h} (opening v is) all =
     let f = subst (Linked b h) is all in
     let w = unsent-making v q.purpose f.host f.pending.0.0.step in
     subst (Linked b (unsent q.purpose h).host) (sym f.pending.0.1) (linked-stay w.0 w.1.stay
-    (linked-last b h (Act.Open v q) rest f.pending.0.1 (λ k e. absurd cc) f))
+    (linked-last b h (Act.Make v q) rest f.pending.0.1 (λ k e. absurd cc) f))
 
 -- ---- credits
 

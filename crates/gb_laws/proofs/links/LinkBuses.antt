@@ -5,7 +5,7 @@ use Rattle.std.specs.List.{find}
 use Rattle.std.specs.Prelude.{◌==◌}
 use Rattle.gb_base.specs.declared.end.End.TheVariants as end
 use Rattle.gb_base.specs.declared.entry.ConnState.TheVariants as state
-use Rattle.gb_base.specs.declared.peers.{Interface.Interface, Link.Link}
+use Rattle.gb_base.specs.declared.interface.{Interface.Interface, Link.Link}
 use Rattle.gb_base.specs.declared.steps.SequenceStep.{SequenceStep}
 use Rattle.gb_formats.specs.UartDevice.{most_credits}
 use Rattle.gb_machine.specs.Bus.{Bus, Connection, has_number}
@@ -214,12 +214,12 @@ host-more b h w q f free made range = record {
 
 -- each live connection has a number that was given
 given-number : {b : Bus} {h : Host} (w : Making) (q : Asking) (rest : List Act)
-    → Linked b h (Act.Open w q ∷ rest) → (c : Connection) → IsIn c b.connections
+    → Linked b h (Act.Make w q ∷ rest) → (c : Connection) → IsIn c b.connections
     → c.number ≤ b.made
 given-number {b} {h} w q rest f c live =
-    by (subst (λ r. IsKnown c h.links (Act.Open w q ∷ r)) f.pending.0.1 (f.known c live))
+    by (subst (λ r. IsKnown c h.links (Act.Make w q ∷ r)) f.pending.0.1 (f.known c live))
   where
-    by : IsKnown c h.links (Act.Open w q ∷ []) → c.number ≤ b.made
+    by : IsKnown c h.links (Act.Make w q ∷ []) → c.number ≤ b.made
     by (supervisory one) = let low = f.made in omega (arith, low, one)
     by (linked l i of) =
         let given = (f.host.links.numbered l i).given in omega (arith, given, of.number)
@@ -228,7 +228,7 @@ given-number {b} {h} w q rest f c live =
 
 -- A connection is made, and its request is pending.
 pub linked-opened : {b : Bus} {h : Host} (w : Making) (q : Asking) (rest : List Act)
-    → Linked b h (Act.Open w q ∷ rest) → Linked (attached w.ap w.intf w.cport w.protocol b)
+    → Linked b h (Act.Make w q ∷ rest) → Linked (attached w.ap w.intf w.cport w.protocol b)
     (with_new_link (next_connection b) w.ap w.intf w.cport w.protocol h) (Act.Ask q ∷ rest)
 linked-opened {b} {h} w q rest f = record {
   host = host-more b h w q f.host free f.made (given-number w q rest f);
@@ -243,8 +243,8 @@ linked-opened {b} {h} w q rest f = record {
         (sym f.pending.0.1) tt,
   );
   known = λ c live. ⊎_elim
-      (λ o. known-more c h.links (new_link (next_connection b) w) (Act.Open w q) (λ e. absurd cc)
-      (subst (λ r. IsKnown c h.links (Act.Open w q ∷ r)) f.pending.0.1 (f.known c o)))
+      (λ o. known-more c h.links (new_link (next_connection b) w) (Act.Make w q) (λ e. absurd cc)
+      (subst (λ r. IsKnown c h.links (Act.Make w q ∷ r)) f.pending.0.1 (f.known c o)))
       (λ e. subst (λ x. IsKnown x (h.links ++ new_link (next_connection b) w ∷ [])
       (Act.Ask q ∷ rest)) (sym e) (linked (new_link (next_connection b) w) (last h.links)
       (record { number = refl; ap = refl; peer = refl; protocol = refl })))

@@ -4,7 +4,7 @@ use Rattle.std.proofs.Common.{Bool, List, None, Option, Some, ap, cond, false, i
 use Rattle.std.proofs.Common.{subst, sym, true, ℕ, ⊎_elim, [], ◌++◌, ◌∙◌, ◌∷◌, ◌≡◌, ◌≢◌, ◌⊎◌}
 use Rattle.std.specs.Prelude.{◌==◌}
 use Rattle.gb_base.specs.declared.entry.ConnState.{ConnState}
-use Rattle.gb_base.specs.declared.peers.Link.{Link}
+use Rattle.gb_base.specs.declared.interface.Link.{Link}
 use Rattle.gb_base.specs.declared.steps.{Purpose.Purpose, SequenceStep.SequenceStep}
 use Rattle.gb_base.specs.declared.entry.ConnState.TheVariants as state
 use Rattle.gb_base.specs.declared.steps.SequenceStep.TheVariants as steps
@@ -41,7 +41,7 @@ LeavesOpen k [] = ⊥
 LeavesOpen k (Act.Shut j ∷ rest) = (j ≢ k) × LeavesOpen k rest
 LeavesOpen k (Act.Leave j ∷ rest) = (j ≡ k) ⊎ LeavesOpen k rest
 LeavesOpen k (Act.Ask q ∷ rest) = LeavesOpen k rest
-LeavesOpen k (Act.Open w q ∷ rest) = LeavesOpen k rest
+LeavesOpen k (Act.Make w q ∷ rest) = LeavesOpen k rest
 LeavesOpen k (Act.Tell e ∷ rest) = LeavesOpen k rest
 
 -- What closes behind a turn was closing, or the turn closes its side; what it gives up without that

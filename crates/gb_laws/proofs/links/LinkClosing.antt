@@ -6,7 +6,7 @@ use Rattle.std.specs.List.{find}
 use Rattle.std.specs.Prelude.{option_map, ◌==◌}
 use Rattle.gb_base.specs.declared.entry.ConnState.{ConnState}
 use Rattle.gb_base.specs.declared.entry.ConnState.TheVariants as state
-use Rattle.gb_base.specs.declared.peers.Link.{Link}
+use Rattle.gb_base.specs.declared.interface.Link.{Link}
 use Rattle.gb_base.specs.declared.steps.{Purpose.Purpose, SequenceStep.SequenceStep}
 use Rattle.gb_base.specs.declared.steps.SequenceStep.TheVariants as steps
 use Rattle.gb_machine.proofs.Conditions.{AreUnmet}
@@ -27,7 +27,8 @@ use Rattle.gb_invariants.proofs.{Found.find-changed, Lists.found-in}
 use Rattle.gb_laws.proofs.links.LinkHosts.{host-images, host-link, kept-same, onto-link, state-link}
 use Rattle.gb_laws.proofs.links.LinkHosts.{stay-changed}
 use Rattle.gb_laws.proofs.links.LinkHosts.{then-same}
-use Rattle.gb_laws.proofs.links.Links.{HostFits, IsAtStep, IsDeaf, IsFollowed, IsIdle, IsWaiting}
+use Rattle.gb_laws.proofs.links.Links.{HostFits, IsAtStep, IsDeaf, IsDueOnLink, IsFollowed}
+use Rattle.gb_laws.proofs.links.Links.{IsWaiting}
 use Rattle.gb_laws.proofs.links.Links.{LinksFit, SameLink, TurnFits, leaves, stays}
 use Rattle.gb_laws.proofs.{links.LinkFails.followed-same, links.LinkFails.waits-not}
 use Rattle.gb_laws.proofs.{links.LinkLists.link-is}
@@ -101,7 +102,7 @@ fits-closing b i c h l fits other e idle = record {
     found = find-changed (is_link i c) (in_state state.Closing) h.links (λ x. refl)
         ∙ ap (option_map (in_state state.Closing)) e
 
-    due : IsIdle steps.TellDisconnecting p g.links
+    due : IsDueOnLink steps.TellDisconnecting p g.links
     due = record {
       cport = other;
       idle = λ y f. ap (λ (x : Link). x.awaits)

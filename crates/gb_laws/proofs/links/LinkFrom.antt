@@ -1,6 +1,6 @@
 -- The facts of the application processor's connections, where each live one comes from one before.
 use Rattle.std.proofs.Common.{List, refl, subst, sym, ◌∙◌, ◌≡◌, ◌≤◌}
-use Rattle.gb_base.specs.declared.peers.Link.{Link}
+use Rattle.gb_base.specs.declared.interface.Link.{Link}
 use Rattle.gb_machine.specs.{Bus.Bus, Bus.Connection, Host.Host, Members.IsIn, Turns.Act}
 use Rattle.gb_laws.proofs.links.Links.{ArePending, HostFits, IsKnown, IsNumbered, IsSvc, leaving}
 use Rattle.gb_laws.proofs.links.Links.{linked}

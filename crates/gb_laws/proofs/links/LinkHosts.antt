@@ -4,7 +4,7 @@ use Rattle.std.proofs.Common.{⊎_elim, ◌∙◌, ◌≡◌}
 use Rattle.std.specs.List.{find}
 use Rattle.std.specs.Prelude.{Option, not, ◌&&◌, ◌==◌}
 use Rattle.gb_base.specs.declared.entry.ConnState.{ConnState}
-use Rattle.gb_base.specs.declared.peers.{Interface.Interface, Link.Link}
+use Rattle.gb_base.specs.declared.interface.{Interface.Interface, Link.Link}
 use Rattle.gb_base.specs.declared.steps.{Purpose.Purpose, SequenceStep.SequenceStep}
 use Rattle.gb_formats.specs.Images.{Images}
 use Rattle.gb_machine.specs.Host.{Host, in_state, is_intf, is_link, with_interface, with_link}

@@ -2,12 +2,13 @@
 use Rattle.std.proofs.Common.{List, None, ap, refl, subst, sym, ℕ, [], ◌∙◌, ◌∷◌, ◌≡◌, ◌≢◌}
 use Rattle.std.specs.Prelude.{◌-◌}
 use Rattle.gb_base.specs.declared.host_event.HostEvent.TheVariants as host_event
+use Rattle.gb_base.specs.declared.host_event.HostEvent.{HostEvent}
 use Rattle.gb_base.specs.declared.refusal.Refusal.TheVariants as why
 use Rattle.gb_base.specs.declared.end.Side.{Side}
 use Rattle.gb_base.specs.declared.end.End.TheVariants as end
 use Rattle.gb_base.specs.declared.end.Side.TheVariants as side
 use Rattle.gb_base.specs.declared.event.Event.TheVariants as event
-use Rattle.gb_base.specs.declared.peers.Link.{Link}
+use Rattle.gb_base.specs.declared.interface.Link.{Link}
 use Rattle.gb_formats.specs.Bridges.{credits_taken}
 use Rattle.gb_machine.proofs.Conditions.{AreUnmet, free, front-unmet}
 use Rattle.gb_machine.specs.Bus.{Bus, Connection, end_of}
@@ -31,7 +32,7 @@ use Rattle.gb_laws.proofs.links.Links.{HostFits, IsFollowed, IsKnown, TurnFits, 
 use Rattle.gb_laws.proofs.links.Links.{linked}
 use Rattle.gb_laws.proofs.links.Links.{stays, supervisory}
 use Rattle.gb_laws.proofs.points.PointParts.{IsCaused, IsNoticed, Point}
-use Rattle.gb_laws.proofs.points.Points.{Change, acts_asked, acts_failed, acts_left, acts_opened}
+use Rattle.gb_laws.proofs.points.Points.{Change, acts_asked, acts_failed, acts_left, acts_made}
 use Rattle.gb_laws.proofs.points.Points.{acts_shut, acts_told, changed, gives, injects, serves}
 use Rattle.gb_laws.proofs.points.Points.{spends}
 use Rattle.gb_laws.proofs.points.Points.{turns}
@@ -55,21 +56,17 @@ pub same-links : (e : Notice) (h : Host) → (noticed_host e h).links ≡ h.link
 same-links (at_insertion p i) h = refl
 same-links e h = refl
 
--- what the application processor does at what it takes notice of
-pub turn-fits : (m : Moment) (b : Bus) (e : Notice) (h : Host) → InsertsAbsent m → IsCaused m e h
-    → HostFits b h → TurnFits b (noticed_host e h) (turn_of e h)
-turn-fits m b (at_insertion p i) h absent cause fits =
-    fits-inserted b p i h fits
-    (cause.absent (absent p cause.count i cause.noticed cause.within))
-turn-fits m b (at_removal i) h absent cause fits = fits-removed b i h fits
-turn-fits m b (at_event (host_event.Inserted p count)) h absent cause fits = absurd cause
-turn-fits m b (at_event (host_event.Removed p)) h absent cause fits = absurd cause
-turn-fits m b (at_event (host_event.Connect i c)) h absent cause fits =
+-- what the application processor does at an event
+pub event-fits : (m : Moment) (b : Bus) (x : HostEvent) (h : Host) → IsCaused m (at_event x) h
+    → HostFits b h → TurnFits b h (turn_of (at_event x) h)
+event-fits m b (host_event.Inserted p count) h cause fits = absurd cause
+event-fits m b (host_event.Removed p) h cause fits = absurd cause
+event-fits m b (host_event.Connect i c) h cause fits =
     fits-connects b i c h fits (subst (λ g. AreUnmet (connect_conditions i c g)) (sym cause.0)
     (front-unmet (connect_conditions i c m.before.host)
     ((has_no_label 1 side.Ap m.before, why.NoLabel) ∷ [])
     (free m.before (event.Connect i c) cause.2))) cause.3
-turn-fits m b (at_event (host_event.Disconnect i c)) h absent cause fits =
+event-fits m b (host_event.Disconnect i c) h cause fits =
     fits-disconnects b i c h fits (subst (λ g. AreUnmet (disconnect_conditions i c g)) (sym cause.0)
     (front-unmet (disconnect_conditions i c m.before.host)
     ((
@@ -77,11 +74,20 @@ turn-fits m b (at_event (host_event.Disconnect i c)) h absent cause fits =
       why.NoLabel,
     ) ∷ [])
     (free m.before (event.Disconnect i c) cause.2)))
-turn-fits m b (at_event (host_event.Drain i c)) h absent cause fits =
+event-fits m b (host_event.Drain i c) h cause fits =
     fits-drains b i c h fits (subst (λ g. AreUnmet (drain_conditions i c g)) (sym cause.0)
     (free m.before (event.Drain i c) cause.2))
-turn-fits m b (at_event (host_event.Idle k)) h absent cause fits = fits-idle b k h fits
-turn-fits m b (at_event (host_event.Ended n how)) h absent cause fits = fits-ended b n how h fits
+event-fits m b (host_event.Idle k) h cause fits = fits-idle b k h fits
+event-fits m b (host_event.Ended n how) h cause fits = fits-ended b n how h fits
+
+-- what it does at what it takes notice of
+pub turn-fits : (m : Moment) (b : Bus) (e : Notice) (h : Host) → InsertsAbsent m → IsCaused m e h
+    → HostFits b h → TurnFits b (noticed_host e h) (turn_of e h)
+turn-fits m b (at_insertion p i) h absent cause fits =
+    fits-inserted b p i h fits
+    (cause.absent (absent p cause.count i cause.noticed cause.within))
+turn-fits m b (at_removal i) h absent cause fits = fits-removed b i h fits
+turn-fits m b (at_event x) h absent cause fits = event-fits m b x h cause fits
 
 -- what is known of live connections behind a turn
 followed-known : (c : Connection) (ls : List Link) {after : List Link} (acts : List Act)
@@ -146,7 +152,7 @@ linked-kept m absent {a} (acts_shut k rest free is cause) h =
     (subst (Linked a.state.bus a.state.host) is h)
 linked-kept m absent {a} (acts_left k rest free untouched is) h =
     linked-left a.state.bus a.state.host k rest (subst (Linked a.state.bus a.state.host) is h)
-linked-kept m absent {a} (acts_opened w q rest free is) h =
+linked-kept m absent {a} (acts_made w q rest free is) h =
     linked-opened w q rest (subst (Linked a.state.bus a.state.host) is h)
 linked-kept m absent {a} (acts_asked q n rest is) h =
     linked-asked q n rest a.state (subst (Linked a.state.bus a.state.host) is.0 h)

@@ -3,7 +3,7 @@ use Rattle.std.proofs.Common.{Bool, None, Option, Some, ap, false, inl, refl, su
 use Rattle.std.proofs.Common.{◌∙◌, ◌∷◌, ◌≡◌, ◌≢◌}
 use Rattle.std.specs.List.{find}
 use Rattle.gb_base.specs.declared.entry.ConnState.TheVariants as state
-use Rattle.gb_base.specs.declared.peers.Link.{Link}
+use Rattle.gb_base.specs.declared.interface.Link.{Link}
 use Rattle.gb_base.specs.declared.steps.Purpose.{Purpose}
 use Rattle.gb_machine.specs.Host.{Host, is_link, link_at, without_link}
 use Rattle.gb_machine.specs.{Bus.Bus, Failures.link_told, Lists.without, Members.IsIn}

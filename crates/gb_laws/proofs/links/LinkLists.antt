@@ -4,7 +4,7 @@ use Rattle.std.proofs.Common.{refl, sym, true, ℕ, ⊎_elim, [], ◌<◌, ◌�
 use Rattle.std.proofs.lemmas.Bool.Decides.{nat_tests}
 use Rattle.std.specs.List.{find}
 use Rattle.std.specs.Prelude.{option_map, ◌==◌}
-use Rattle.gb_base.specs.declared.peers.{Interface.Interface, Link.Link}
+use Rattle.gb_base.specs.declared.interface.{Interface.Interface, Link.Link}
 use Rattle.gb_base.specs.declared.steps.Purpose.{Purpose}
 use Rattle.gb_machine.specs.Host.{Host, control_of, is_intf, is_link, link_at}
 use Rattle.gb_machine.specs.{Lists.at_first, Lists.in_order, Members.EachTwo, Members.IsIn}

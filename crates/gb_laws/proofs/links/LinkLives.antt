@@ -2,7 +2,7 @@
 use Rattle.std.proofs.Common.{List, Option, Some, ap, inl, refl, subst, sym, ℕ, ⊎_elim, []}
 use Rattle.std.proofs.Common.{◌∙◌, ◌∷◌, ◌≡◌}
 use Rattle.gb_base.specs.declared.end.End.TheVariants as end
-use Rattle.gb_base.specs.declared.peers.Link.{Link}
+use Rattle.gb_base.specs.declared.interface.Link.{Link}
 use Rattle.gb_base.specs.declared.steps.SequenceStep.{SequenceStep}
 use Rattle.gb_machine.specs.Host.{Host, is_link, with_link}
 use Rattle.gb_machine.specs.{Bus.Connection, Failures.unsent, HostServing.host_serves}
@@ -16,7 +16,7 @@ use Rattle.gb_invariants.proofs.HostChanges.{turn_of}
 use Rattle.gb_laws.proofs.links.LinkActs.{ServedHost, as_before, awaited-host, host-served}
 use Rattle.gb_laws.proofs.links.LinkActs.{with_images, with_more}
 use Rattle.gb_laws.proofs.links.LinkSources.{LinksFrom, from-turn, from-unsent, from-waiting}
-use Rattle.gb_laws.proofs.points.Points.{Change, acts_asked, acts_failed, acts_left, acts_opened}
+use Rattle.gb_laws.proofs.points.Points.{Change, acts_asked, acts_failed, acts_left, acts_made}
 use Rattle.gb_laws.proofs.points.Points.{changed}
 use Rattle.gb_laws.proofs.points.Points.{serves, spends, turns}
 use Rattle.gb_laws.proofs.{points.ChangeBuses.bus_change, points.ChangeBuses.by-bus}
@@ -64,10 +64,10 @@ alive-kept m a x links h = by-bus (λ b. AreAlive b.connections (changed m a x).
     by (acts_left k rest free untouched is) = λ l i. on (acts_left k rest free untouched is) l i
         (λ e. (subst (ArePending a.state.host) is links.pending).0.1 l i
         (sym (same-some k l.connection e)))
-    by (acts_opened w q rest free is) = λ l i. ⊎_elim
-        (λ o. on (acts_opened w q rest free is) l o (λ e. absurd cc))
+    by (acts_made w q rest free is) = λ l i. ⊎_elim
+        (λ o. on (acts_made w q rest free is) l o (λ e. absurd cc))
         (λ e. subst (λ (k : Link). IsAlive k.connection
-        (changed m a (acts_opened w q rest free is)).state.bus.connections) (sym e) (record {
+        (changed m a (acts_made w q rest free is)).state.bus.connections) (sym e) (record {
           connection = new_connection (next_connection a.state.bus) w.ap
               (end.Module w.intf w.cport) w.protocol;
           live = in-behind _ a.state.bus.connections (_ ∷ []) (inl refl);

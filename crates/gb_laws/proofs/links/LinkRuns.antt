@@ -1,6 +1,5 @@
 -- The application processor's connections go with the bus, and insertions and removals come in
--- turn,
--- throughout.
+-- turn, throughout.
 use Rattle.std.proofs.Common.{List, None, Option, Some, ap, false, inl, map, refl, subst, sym, ℕ}
 use Rattle.std.proofs.Common.{[], ◌∙◌, ◌∷◌, ◌≡◌}
 use Rattle.gb_base.specs.declared.end.End.{End}

@@ -5,7 +5,7 @@ use Rattle.std.specs.List.{find, list_any}
 use Rattle.std.specs.Prelude.{Err, Ok, Result, option_map, ◌==◌, ◌≤◌}
 use Rattle.gb_base.specs.declared.entry.ConnState.{ConnState}
 use Rattle.gb_base.specs.declared.entry.ConnState.TheVariants as state
-use Rattle.gb_base.specs.declared.peers.{Interface.Interface, Link.Link}
+use Rattle.gb_base.specs.declared.interface.{Interface.Interface, Link.Link}
 use Rattle.gb_base.specs.declared.steps.{Purpose.Purpose, SequenceStep.SequenceStep}
 use Rattle.gb_base.specs.declared.steps.SequenceStep.TheVariants as steps
 use Rattle.gb_formats.specs.{ControlRecords.read_control_reply, Manifest.Manifest}
@@ -28,7 +28,7 @@ use Rattle.gb_laws.proofs.links.LinkFails.{fits-through, followed-same, waits-no
 use Rattle.gb_laws.proofs.links.LinkHosts.{Onto, host-interface, host-link, kept-same}
 use Rattle.gb_laws.proofs.links.LinkHosts.{next-interface}
 use Rattle.gb_laws.proofs.links.LinkHosts.{next-to, onto-interface, onto-link, state-link}
-use Rattle.gb_laws.proofs.links.Links.{HostFits, IsAtStep, IsDue, IsFormed, IsIdle, IsNext}
+use Rattle.gb_laws.proofs.links.Links.{HostFits, IsAtStep, IsDue, IsDueOnLink, IsFormed, IsNext}
 use Rattle.gb_laws.proofs.links.Links.{TurnFits}
 use Rattle.gb_laws.proofs.links.Links.{control}
 use Rattle.gb_laws.proofs.{links.LinkLeft.fits-left, links.LinkLists.link-is}
@@ -162,7 +162,7 @@ opened-control b p h fits zero_cport =
 
 -- another is open that was opening
 opened-link : (b : Bus) (p : Purpose) (h : Host) → HostFits b h
-    → IsIdle steps.TellConnected p h.links → HostFits b (opened p h)
+    → IsDueOnLink steps.TellConnected p h.links → HostFits b (opened p h)
 opened-link b p h fits idle =
     host-link p.intf p.cport (in_state state.Open) (state-link state.Open)
     (λ l i f waits. waits-not (in_state state.Open l) (idle.idle l f))
@@ -201,15 +201,16 @@ fits-manifest b p bytes h fits = by (length bytes == size_known (interface_of p.
 
 -- another step is due where connections and their states stay
 idle-on : {step to : SequenceStep} {p : Purpose} {ls : List Link}
-    → ((s : ConnState) → IsAtStep step s → IsAtStep to s) → IsIdle step p ls → IsIdle to p ls
+    → ((s : ConnState) → IsAtStep step s → IsAtStep to s) → IsDueOnLink step p ls
+    → IsDueOnLink to p ls
 idle-on on h = record {
   cport = h.cport;
   idle = h.idle;
   state = λ l f. on l.state (h.state l f);
 }
 
-at-step : {s : SequenceStep} (to : SequenceStep) (p : Purpose) {ls : List Link} → IsIdle s p ls
-    → IsIdle s (at_step to p) ls
+at-step : {s : SequenceStep} (to : SequenceStep) (p : Purpose) {ls : List Link} → IsDueOnLink s p ls
+    → IsDueOnLink s (at_step to p) ls
 at-step to p h = record { cport = h.cport; idle = h.idle; state = h.state }
 
 -- What follows a step that was answered as it should be.

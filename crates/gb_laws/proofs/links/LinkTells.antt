@@ -3,7 +3,7 @@ use Rattle.std.proofs.Common.{List, None, Some, inl, inr, map, refl, sym, ℕ, [
 use Rattle.std.proofs.Common.{◌≡◌}
 use Rattle.std.specs.Prelude.{◌==◌}
 use Rattle.gb_base.specs.declared.entry.{ConnState.ConnState, Entry.Entry}
-use Rattle.gb_base.specs.declared.peers.Link.{Link}
+use Rattle.gb_base.specs.declared.interface.Link.{Link}
 use Rattle.gb_base.specs.declared.steps.Purpose.{Purpose}
 use Rattle.gb_base.specs.declared.entry.ConnState.TheVariants as state
 use Rattle.gb_base.specs.declared.entry.Entry.TheVariants as entry
@@ -30,7 +30,7 @@ abbrev pub ActsTell : Host → List Act → Type 0
 ActsTell h [] = Unit {0}
 ActsTell h (Act.Tell e ∷ rest) = TellsLink h e × ActsTell h rest
 ActsTell h (Act.Ask q ∷ rest) = ActsTell h rest
-ActsTell h (Act.Open w q ∷ rest) = ActsTell h rest
+ActsTell h (Act.Make w q ∷ rest) = ActsTell h rest
 ActsTell h (Act.Shut k ∷ rest) = ActsTell h rest
 ActsTell h (Act.Leave k ∷ rest) = ActsTell h rest
 
@@ -53,7 +53,7 @@ acts-back h g from [] t = tt
 acts-back h g from (Act.Tell e ∷ rest) t =
     (tells-back h g from e t.0, acts-back h g from rest t.1)
 acts-back h g from (Act.Ask q ∷ rest) t = acts-back h g from rest t
-acts-back h g from (Act.Open w q ∷ rest) t = acts-back h g from rest t
+acts-back h g from (Act.Make w q ∷ rest) t = acts-back h g from rest t
 acts-back h g from (Act.Shut k ∷ rest) t = acts-back h g from rest t
 acts-back h g from (Act.Leave k ∷ rest) t = acts-back h g from rest t
 

@@ -4,7 +4,7 @@ use Rattle.std.specs.List.{find}
 use Rattle.gb_base.specs.declared.end.End.TheVariants as end
 use Rattle.gb_base.specs.declared.entry.ConnState.{ConnState}
 use Rattle.gb_base.specs.declared.entry.ConnState.TheVariants as state
-use Rattle.gb_base.specs.declared.peers.{Interface.Interface, Link.Link}
+use Rattle.gb_base.specs.declared.interface.{Interface.Interface, Link.Link}
 use Rattle.gb_base.specs.declared.steps.{Purpose.Purpose, SequenceStep.SequenceStep}
 use Rattle.gb_base.specs.declared.steps.SequenceStep.TheVariants as steps
 use Rattle.gb_machine.specs.SequenceSteps.{Target, asks_control, is_enumeration, kind_of}
@@ -111,7 +111,7 @@ pub record HostFits (b : Bus) (h : Host) : Type 0 where
 -- ---- steps that are due
 
 -- where a step of a connect or close is due, the connection waits for nothing
-pub record IsIdle (step : SequenceStep) (p : Purpose) (ls : List Link) : Type 0 where
+pub record IsDueOnLink (step : SequenceStep) (p : Purpose) (ls : List Link) : Type 0 where
   pub cport : p.cport ≢ 0
   pub idle : (l : Link) → find (is_link p.intf p.cport) ls ≡ Some l → l.awaits ≡ None
   pub state : (l : Link) → find (is_link p.intf p.cport) ls ≡ Some l → IsAtStep step l.state
@@ -125,7 +125,7 @@ pub record IsNext (step : SequenceStep) (p : Purpose) (h : Host) : Type 0 where
 
 abbrev pub IsDueBy : Bool → SequenceStep → Purpose → Host → Type 0
 IsDueBy true step p h = IsNext step p h
-IsDueBy false step p h = IsIdle step p h.links
+IsDueBy false step p h = IsDueOnLink step p h.links
 
 -- A step is due.
 abbrev pub IsDue : SequenceStep → Purpose → Host → Type 0
@@ -173,7 +173,7 @@ IsOnControl h q = asks_control q.purpose.step ≡ true
 abbrev pub IsPending : Host → Act → List Act → Type 0
 IsPending h (Act.Ask q) rest =
     IsDue q.purpose.step q.purpose h × (rest ≡ []) × IsFormed q × IsOnControl h q
-IsPending h (Act.Open w q) rest = IsFree w q h × (rest ≡ [])
+IsPending h (Act.Make w q) rest = IsFree w q h × (rest ≡ [])
 IsPending h (Act.Shut k) rest =
     (2 ≤ k) × ((l : Link) → IsIn l h.links → l.connection ≡ k → IsDeaf l)
 IsPending h (Act.Leave k) rest = (2 ≤ k) × ((l : Link) → IsIn l h.links → l.connection ≢ k)

@@ -1,20 +1,13 @@
 -- Answers are read by the protocol of the connection that they come on: the application processor
 -- knows it where the connection is one of its own, and on the supervisory controller's there is
 -- nothing to read.
-use Rattle.std.proofs.Common.{List, None, Option, Some, ap, subst, sym, ℕ, [], ◌∙◌, ◌≡◌}
-use Rattle.gb_base.specs.declared.bridge.Reading.TheVariants as reading
-use Rattle.gb_base.specs.declared.peers.Link.{Link}
+use Rattle.std.proofs.Common.{ap, subst, sym, [], ◌∙◌}
 use Rattle.gb_formats.specs.Bridges.{reading_of}
 use Rattle.gb_machine.specs.{Bus.Bus, Bus.Connection, Host.Host, Host.link_of, Members.IsIn}
 use Rattle.gb_laws.proofs.links.Links.{IsKnown, leaving, linked, supervisory}
 use Rattle.gb_laws.proofs.{links.LinkFrom.Linked, links.LinkLists.found-link}
 use Rattle.gb_laws.proofs.{marks.MarkTakes.no-link-one}
-
--- what a protocol has to do with what is known of a connection
-abbrev pub IsReadBy : Option Link → ℕ → Type 0
-IsReadBy (Some l) protocol = protocol ≡ l.protocol
-IsReadBy None protocol =
-    (kind : ℕ) (payload : List ℕ) → reading_of protocol kind payload ≡ reading.Nothing
+use Rattle.gb_laws.specs.Readings.{IsReadBy}
 
 pub read-by : {b : Bus} {h : Host} (c : Connection) → Linked b h [] → IsIn c b.connections
     → IsReadBy (link_of c.number h) c.protocol

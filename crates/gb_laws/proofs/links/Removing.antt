@@ -7,7 +7,7 @@ use Rattle.gb_base.specs.declared.end.Side.TheVariants as side
 use Rattle.gb_base.specs.declared.event.Event.TheVariants as event
 use Rattle.gb_base.specs.declared.host_event.HostEvent.TheVariants as host_event
 use Rattle.gb_base.specs.declared.host_event.HostEvent.{HostEvent}
-use Rattle.gb_base.specs.declared.peers.Link.{Link}
+use Rattle.gb_base.specs.declared.interface.Link.{Link}
 use Rattle.gb_formats.specs.{Records.PayloadFault, SvcRecords.SvcAsk}
 use Rattle.gb_formats.specs.{SvcRecords.read_svc_ask_of_svc}
 use Rattle.gb_machine.proofs.{Opened.machine_opened, Steps.deliver-allowed}

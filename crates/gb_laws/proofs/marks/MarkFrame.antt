@@ -1,6 +1,6 @@
 -- What stays within a step at which the supervisory controller doesn't ask: the marks that wait,
--- but for the one that is taken, what is plugged, which interfaces are known, and which pulls are
--- remembered.
+-- but for the one that is taken, what is plugged, which interfaces are known, and which pulls
+-- are remembered.
 use Rattle.std.proofs.Common.{Bool, List, None, Option, Some, ap, cond, false, inl, inr, refl, sym}
 use Rattle.std.proofs.Common.{true, ℕ, ⊎_elim, [], ◌∙◌, ◌≡◌, ◌⊎◌}
 use Rattle.gb_base.specs.declared.end.Side.{Side}

@@ -2,7 +2,7 @@
 -- insertion is handled.
 use Rattle.std.proofs.Common.{inr, subst, ℕ, ⊎_elim, ◌⊎◌}
 use Rattle.gb_base.specs.declared.host_event.HostEvent.TheVariants as host_event
-use Rattle.gb_base.specs.declared.peers.Interface.{Interface}
+use Rattle.gb_base.specs.declared.interface.Interface.{Interface}
 use Rattle.gb_machine.specs.{Lists.span, Members.IsIn, Runs.Moment}
 use Rattle.gb_laws.proofs.marks.MarkHosts.{IsNamed, NamesFewer, awaited-named, served-named}
 use Rattle.gb_laws.proofs.marks.MarkHosts.{turn-named, unsent-named}

@@ -5,7 +5,7 @@ use Rattle.std.proofs.Common.{ℕ, ⊎_elim, [], ◌++◌, ◌∙◌, ◌∷◌,
 use Rattle.std.specs.Prelude.{is_some, option_map, ◌==◌}
 use Rattle.gb_base.specs.declared.end.End.{End}
 use Rattle.gb_base.specs.declared.event.Event.TheVariants as event
-use Rattle.gb_base.specs.declared.peers.{Interface.Interface, Link.Link}
+use Rattle.gb_base.specs.declared.interface.{Interface.Interface, Link.Link}
 use Rattle.gb_base.specs.declared.refusal.Refusal.{Refusal}
 use Rattle.gb_machine.proofs.{Conditions.waits, Opened.machine_opened}
 use Rattle.gb_machine.specs.Bus.{Item, Place, place_of, queue}

@@ -1,13 +1,13 @@
 -- What the application processor takes notice of comes on the supervisory controller's connection.
 use Rattle.std.proofs.Common.{Bool, List, None, Option, Some, ap, cond, false, inl, inr, refl}
 use Rattle.std.proofs.Common.{subst, sym, true, ℕ, [], ◌++◌, ◌∙◌, ◌∷◌, ◌≡◌, ◌⊎◌}
-use Rattle.std.specs.Prelude.{Err, Ok, Result, option_map, ◌==◌}
+use Rattle.std.specs.Prelude.{Err, Ok, Result, ◌==◌}
 use Rattle.gb_base.specs.declared.end.End.TheVariants as end
 use Rattle.gb_base.specs.declared.end.Side.TheVariants as side
 use Rattle.gb_base.specs.declared.event.Event.TheVariants as event
 use Rattle.gb_base.specs.declared.host_event.HostEvent.TheVariants as host_event
 use Rattle.gb_base.specs.declared.host_event.HostEvent.{HostEvent}
-use Rattle.gb_base.specs.declared.peers.Link.{Link}
+use Rattle.gb_base.specs.declared.interface.Link.{Link}
 use Rattle.gb_formats.specs.Records.{PayloadFault, Row, if_own, read_row, row_of}
 use Rattle.gb_formats.specs.SvcRecords.{SvcAsk, read_svc_ask, read_svc_ask_of_svc, svc_asks}
 use Rattle.gb_formats.specs.{GpioRecords.GpioAsk, GpioRecords.read_gpio_ask_of_module}
@@ -19,13 +19,13 @@ use Rattle.gb_machine.specs.Host.{Host, first_host, link_of}
 use Rattle.gb_machine.specs.HostServing.{HostServed, credited, host_refuses, interrupted}
 use Rattle.gb_machine.specs.HostServing.{notified_by, served_on, serves_firmware, serves_gpio}
 use Rattle.gb_machine.specs.HostServing.{serves_svc, serves_uart, uart_notified_by}
-use Rattle.gb_machine.specs.Incoming.{Incoming, incoming, request_in}
+use Rattle.gb_machine.specs.Incoming.{Incoming}
 use Rattle.gb_machine.specs.SvcQueues.{HandlesRemoval, is_told, items_in, svc_items}
 use Rattle.gb_machine.specs.{Lists.behind_first, Lists.first, Runs.Moment, State.State}
 use Rattle.gb_invariants.proofs.Awaiting.{none-some, not-both, same-some}
 use Rattle.gb_invariants.proofs.{Found.find-none, ItemChanges.first-in, Numbers.found-by_number}
 use Rattle.gb_invariants.proofs.{Outcomes.is-same}
-use Rattle.gb_invariants.specs.Facts.{is_numbered}
+use Rattle.gb_invariants.proofs.Requests.{numbered-ask}
 use Rattle.gb_laws.proofs.links.Links.{IsKnown, leaving, linked, supervisory}
 use Rattle.gb_laws.proofs.points.PointParts.{Basis, IsNoticed, resting}
 use Rattle.gb_laws.proofs.marks.Marks.{MarksFit, Reads, known_at, mark_in, marks_of, notice_of}
@@ -132,18 +132,6 @@ number-one b h c (linked l i of) none =
     absurd (not-both (l.connection == c.number)
     (ap (λ n. l.connection == n) of.number ∙ is-same l.connection)
     (find-none (λ k. k.connection == c.number) h.links l none i))
-
--- a request that waits and has a number was made
-pub numbered-ask : (item : Item) (b : Bus) (q : Incoming) → is_numbered item ≡ true
-    → request_in item b ≡ Some q
-    → (n : ℕ) × (r : Request) × (item ≡ Ask n) × (request_of n b ≡ Some r) × (incoming n r ≡ q)
-numbered-ask (Ask n) b q numbered made = by (request_of n b) refl made
-  where
-    by : (o : Option Request) → request_of n b ≡ o → option_map (incoming n) o ≡ Some q
-        → (k : ℕ) × (r : Request) × (Ask n ≡ Ask k) × (request_of k b ≡ Some r) × (incoming k r ≡ q)
-    by None e f = absurd cc
-    by (Some r) e f = (n, r, refl, e, same-some (incoming n r) q f)
-numbered-ask _ b q numbered made = absurd cc
 
 -- what is noticed doesn't depend on the application processor
 pub notice-any : (kind : ℕ) (payload : List ℕ) (h g : Host)

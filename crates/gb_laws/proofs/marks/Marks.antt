@@ -7,7 +7,7 @@ use Rattle.std.specs.Prelude.{if◌then◌else◌, is_some, map, option_map, ◌
 use Rattle.gb_base.specs.declared.end.Side.TheVariants as side
 use Rattle.gb_base.specs.declared.host_event.HostEvent.TheVariants as host_event
 use Rattle.gb_base.specs.declared.host_event.HostEvent.{HostEvent}
-use Rattle.gb_base.specs.declared.peers.Interface.{Interface}
+use Rattle.gb_base.specs.declared.interface.Interface.{Interface}
 use Rattle.gb_machine.specs.Bus.{Ask, Bus, Connection, Item, Raw, RawReply, Reply, Request}
 use Rattle.gb_machine.specs.Bus.{has_number, next_number, queue, request_of}
 use Rattle.gb_machine.proofs.Lists.{nth-past}
@@ -33,8 +33,8 @@ pub data Mark : Type 0 where
   came : ℕ → Mark
   went : ℕ → Bool → Mark
 
--- the mark of an interface in what is noticed, where it is known whether it tells that this was
--- pulled
+-- the mark of an interface in what is noticed, where it is known whether it tells that this
+-- was pulled
 abbrev pub mark_in : ℕ → Bool → Option HostEvent → List Mark
 mark_in i own (Some (host_event.Inserted p count)) =
     if is_within p count i then came p ∷ [] else []

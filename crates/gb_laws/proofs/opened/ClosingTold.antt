@@ -28,7 +28,7 @@ use Rattle.gb_laws.proofs.opened.OpenRuns.{OpensTo, open-there, opens-throughout
 use Rattle.gb_laws.proofs.points.PointParts.{Basis, Point, asked_told, is_silent, resting}
 use Rattle.gb_laws.proofs.points.PointParts.{sent_told}
 use Rattle.gb_laws.proofs.points.Points.{Change, IsAsking, Law, acts_asked, acts_failed, acts_left}
-use Rattle.gb_laws.proofs.points.Points.{acts_opened, acts_shut, acts_told, answers, asking, asks}
+use Rattle.gb_laws.proofs.points.Points.{acts_made, acts_shut, acts_told, answers, asking, asks}
 use Rattle.gb_laws.proofs.points.Points.{changed}
 use Rattle.gb_laws.proofs.points.Points.{drops, gives_up, injects, names, opening, replies, tells}
 use Rattle.gb_laws.proofs.points.Points.{turns}
@@ -198,8 +198,8 @@ so-far-kept m a (acts_left k rest free untouched is) basis links said h =
     so-far x [] basis said refl tt
     (acts-stay x basis (λ e made. none-some made) rest
     (subst (AreLed (IsUnopen a.state.bus)) is h.acts)) h
-so-far-kept m a (acts_opened w q rest free is) basis links said h =
-    let x = acts_opened w q rest free is in
+so-far-kept m a (acts_made w q rest free is) basis links said h =
+    let x = acts_made w q rest free is in
     so-far x (_ ∷ []) basis said refl (tt, tt)
     (subst (AreLed (IsUnopen (changed m a x).state.bus))
     (sym (subst (ArePending a.state.host) is links.pending).0.1) tt) h

@@ -4,28 +4,24 @@ use Rattle.std.proofs.Common.{inl, inr, refl, sym, ap, ◌∙◌, subst, ⊎_eli
 use Rattle.gb_base.specs.declared.end.Side.{Side}
 use Rattle.gb_base.specs.declared.end.Side.TheVariants as side
 use Rattle.gb_base.specs.declared.entry.Entry.{Entry}
-use Rattle.gb_invariants.proofs.ItemChanges.{first-in}
 use Rattle.gb_invariants.proofs.Labels.{asked_on}
 use Rattle.gb_invariants.proofs.Lists.{in-at_first, in-pushed, in-without}
-use Rattle.gb_invariants.specs.Facts.{is_numbered}
 use Rattle.gb_laws.proofs.points.Awaited.{awaited-rest}
 use Rattle.gb_laws.proofs.basis.Basics.{Based, basis, basis-first, rested}
 use Rattle.gb_laws.proofs.points.PointParts.{Point}
-use Rattle.gb_laws.proofs.points.Points.{Change, Law, acts_asked, acts_left, acts_opened, acts_shut}
+use Rattle.gb_laws.proofs.points.Points.{Change, Law, acts_asked, acts_left, acts_made, acts_shut}
 use Rattle.gb_laws.proofs.points.Points.{asks}
 use Rattle.gb_laws.proofs.points.Points.{changed, injects, names, replies, takes, unwires, upon}
 use Rattle.gb_laws.proofs.points.Points.{wires}
-use Rattle.gb_laws.proofs.runs.Reached.{reached-has}
 use Rattle.gb_laws.proofs.runs.Runs.{HoldsByMoments, throughout, weaker}
 use Rattle.gb_laws.proofs.steps.Steps.{over-step}
 use Rattle.gb_machine.specs.Bus.{Ask, Bus, Connection, Item, Raw, RawReply, Reply, has_number}
 use Rattle.gb_machine.specs.Bus.{next_number, other_side, svc_connection}
 use Rattle.gb_machine.specs.Delivery.{without_front}
-use Rattle.gb_machine.specs.Incoming.{Incoming, reply_item, reply_to, request_in}
+use Rattle.gb_machine.specs.Incoming.{Incoming, reply_item, reply_to}
 use Rattle.gb_machine.specs.Labels.{with_last_label}
-use Rattle.gb_machine.specs.Lists.{at_first, behind_first, first}
+use Rattle.gb_machine.specs.Lists.{at_first, behind_first}
 use Rattle.gb_machine.specs.Members.{IsIn}
-use Rattle.gb_machine.specs.Reached.{OfARun}
 use Rattle.gb_machine.specs.Runs.{Moment}
 use Rattle.gb_machine.specs.Sending.{Draft, drawn, put, queued}
 use Rattle.gb_machine.specs.Serving.{Answer}
@@ -131,7 +127,7 @@ unraw-kept m a (acts_shut k rest free is cause) h =
     unraw-changed a.state.bus.connections k (λ c. record c { shut = true }) (λ c g. g) h
 unraw-kept m a (acts_left k rest free untouched is) h = λ c live.
     h c (in-without (has_number k) a.state.bus.connections c live).0
-unraw-kept m a (acts_opened w q rest free is) h = λ c live.
+unraw-kept m a (acts_made w q rest free is) h = λ c live.
     ⊎_elim (h c) (λ e. subst (λ (x : Connection). NoneRaw x.to_far) (sym e) (λ i n. absurd n))
     (in-pushed c a.state.bus.connections _ live)
 unraw-kept m a (acts_asked q n rest is) h =
@@ -152,22 +148,7 @@ unraw_law m =
 abbrev pub UnrawTo : List Entry → State → Type 0
 UnrawTo told s = Based told s × NoneRawToFar s.bus.connections
 
-unraw-throughout : HoldsByMoments (λ told s. NoneRawToFar s.bus.connections)
+pub unraw-throughout : HoldsByMoments (λ told s. NoneRawToFar s.bus.connections)
 unraw-throughout = weaker UnrawTo (λ told s. NoneRawToFar s.bus.connections) (λ told s h. h.1)
     (throughout UnrawTo (basis-first, unraw-first) (λ m one h.
     let r = over-step m (unraw_law m) one h in (rested _ _ r.0 r.1.0, r.1.1)))
-
--- A request that stands in front toward a far end has a number.
-pub far-numbered : (s : State) (c : Connection) (item : Item) (q : Incoming) → OfARun s
-    → IsIn c s.bus.connections → first c.to_far ≡ Some item → request_in item s.bus ≡ Some q
-    → is_numbered item ≡ true
-far-numbered s c item q run live front is =
-    by item is
-    (reached-has (λ t. NoneRawToFar t.bus.connections) unraw-throughout s run c live item
-    (first-in c.to_far item front))
-  where
-    by : (x : Item) → request_in x s.bus ≡ Some q → is_raw x ≡ false → is_numbered x ≡ true
-    by (Ask n) e plain = refl
-    by (Reply n result payload) e plain = refl
-    by (Raw bytes) e plain = absurd cc
-    by (RawReply label kind result payload) e plain = absurd cc

@@ -3,7 +3,7 @@
 use Rattle.std.proofs.Common.{Bool, Some, ap, cond, false, refl, subst, sym, true, ℕ, ⊎_elim, ◌∙◌}
 use Rattle.std.proofs.Common.{◌≡◌}
 use Rattle.gb_base.specs.declared.end.Side.TheVariants as side
-use Rattle.gb_base.specs.declared.peers.Link.{Link}
+use Rattle.gb_base.specs.declared.interface.Link.{Link}
 use Rattle.gb_base.specs.declared.steps.SequenceStep.{SequenceStep}
 use Rattle.gb_machine.specs.Bus.{Bus, Connection, Request, connection_of, request_of}
 use Rattle.gb_machine.specs.Host.{Host, is_link, with_interface, with_link}
@@ -20,7 +20,7 @@ use Rattle.gb_laws.proofs.opened.FarOpen.{FarFits, IsFarWell, far-after}
 use Rattle.gb_laws.proofs.links.LinkActs.{awaited-host}
 use Rattle.gb_laws.proofs.creations.Pairs.{ComeFrom, come-from, come-link, come-same, come-served}
 use Rattle.gb_laws.proofs.points.Points.{Change, IsAskedBy, acts_asked, acts_failed, acts_left}
-use Rattle.gb_laws.proofs.points.Points.{acts_opened, asks, by_far, by_host, by_loader, changed}
+use Rattle.gb_laws.proofs.points.Points.{acts_made, asks, by_far, by_host, by_loader, changed}
 use Rattle.gb_laws.proofs.points.Points.{gives_up}
 use Rattle.gb_laws.proofs.points.Points.{names}
 use Rattle.gb_laws.proofs.points.Points.{serves, spends, turns}
@@ -66,7 +66,7 @@ pub kinds-kept : (m : Moment) (a : Point) (x : Change m a) → LinkedAt a → Pa
 kinds-kept m a (turns e free untouched none cause) links pairs h =
     kinds-on a.state.bus a.state.bus a.state.host (turn_of e a.state.host).host (λ n r made. made)
     (come-from a.state.host (turn_of e a.state.host).host (from-turn e a.state.host)) h
-kinds-kept m a (acts_opened w q rest free is) links pairs h = λ l live v e. ⊎_elim
+kinds-kept m a (acts_made w q rest free is) links pairs h = λ l live v e. ⊎_elim
     (λ o. let k = h l o v e in record {
       request = k.request;
       made = k.made;
@@ -161,5 +161,5 @@ far-kept m a x basis goes h =
         (basis.bus.outcomes, λ far. absurd (ap-no-far (sym host.0 ∙ far)))
     well (gives_up n how free unended cause) goes = unended
     well (acts_left k rest free untouched is) goes = goes
-    well (acts_opened w q rest free is) goes = basis.bus.numbers.on
+    well (acts_made w q rest free is) goes = basis.bus.numbers.on
     well _ goes = tt

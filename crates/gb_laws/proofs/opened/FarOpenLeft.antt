@@ -5,7 +5,7 @@ use Rattle.std.proofs.Common.{⊎_elim, [], ◌∙◌, ◌∷◌, ◌≡◌, ◌
 use Rattle.std.specs.Prelude.{◌&&◌, ◌==◌}
 use Rattle.gb_base.specs.declared.end.Side.TheVariants as side
 use Rattle.gb_base.specs.declared.host_event.HostEvent.TheVariants as host_event
-use Rattle.gb_base.specs.declared.peers.Link.{Link}
+use Rattle.gb_base.specs.declared.interface.Link.{Link}
 use Rattle.gb_base.specs.declared.steps.SequenceStep.TheVariants as steps
 use Rattle.gb_formats.specs.SvcRecords.{read_svc_ask}
 use Rattle.gb_machine.proofs.Lists.{nth-within}
@@ -21,7 +21,7 @@ use Rattle.gb_laws.proofs.links.Links.{IsKnown, leaving, linked, supervisory}
 use Rattle.gb_laws.proofs.points.PointParts.{IsCaused, IsNoticed, Point, Untouched}
 use Rattle.gb_laws.proofs.points.Points.{Change, IsAsking, IsOver, acts_asked, acts_failed}
 use Rattle.gb_laws.proofs.points.Points.{acts_left}
-use Rattle.gb_laws.proofs.points.Points.{acts_opened, acts_shut, acts_told, asking, changed}
+use Rattle.gb_laws.proofs.points.Points.{acts_made, acts_shut, acts_told, asking, changed}
 use Rattle.gb_laws.proofs.points.Points.{opening}
 use Rattle.gb_laws.proofs.points.Points.{turns, unwires, wires}
 use Rattle.gb_laws.proofs.{creations.Creating.destroys_one, creations.Creating.is_destroy}
@@ -185,9 +185,9 @@ module _ (m : Moment) (start : GoneTo m.told m.before) where
   leaves-kept a (acts_left k rest free untouched is) g kinds h =
       leaves-on a (changed m a (acts_left k rest free untouched is))
       (fewer a (Act.Leave k) rest is) h
-  leaves-kept a (acts_opened w q rest free is) g kinds h =
-      leaves-on a (changed m a (acts_opened w q rest free is))
-      (λ k i. ⊎_elim (λ e. absurd cc) (λ j. fewer a (Act.Open w q) rest is k j) i) h
+  leaves-kept a (acts_made w q rest free is) g kinds h =
+      leaves-on a (changed m a (acts_made w q rest free is))
+      (λ k i. ⊎_elim (λ e. absurd cc) (λ j. fewer a (Act.Make w q) rest is k j) i) h
   leaves-kept a (acts_asked q n rest is) g kinds h =
       leaves-on a (changed m a (acts_asked q n rest is)) (fewer a (Act.Ask q) rest is.0) h
   leaves-kept a (acts_failed q rest is quiet) g kinds h =
@@ -196,6 +196,6 @@ module _ (m : Moment) (start : GoneTo m.told m.before) where
       by : IsAsking q a.pending rest → (k : ℕ) → IsIn (Act.Leave k) rest
           → IsIn (Act.Leave k) a.pending
       by (asking e) = fewer a (Act.Ask q) rest e
-      by (opening w e) = fewer a (Act.Open w q) rest e
+      by (opening w e) = fewer a (Act.Make w q) rest e
   leaves-kept a x g kinds h =
       leaves-on a (changed m a x) (λ k i. i) h

@@ -3,7 +3,7 @@
 use Rattle.std.proofs.Common.{List, None, Some, ℕ, inl, inr, map, refl, [], ⊎_elim, ◌++◌, ◌∷◌, ◌≡◌}
 use Rattle.std.proofs.Common.{◌⊎◌}
 use Rattle.gb_base.specs.declared.entry.{ConnState.ConnState, Entry.Entry}
-use Rattle.gb_base.specs.declared.peers.{Link.Link}
+use Rattle.gb_base.specs.declared.interface.{Link.Link}
 use Rattle.gb_base.specs.declared.steps.{Purpose.Purpose}
 use Rattle.gb_base.specs.declared.entry.ConnState.TheVariants as state
 use Rattle.gb_base.specs.declared.entry.Entry.TheVariants as entry
@@ -29,7 +29,7 @@ AreLed So [] = Unit {0}
 AreLed So (Act.Shut k ∷ rest) = AreLed (λ n. (n ≡ k) ⊎ So n) rest
 AreLed So (Act.Tell e ∷ rest) = TellsOf So e × AreLed So rest
 AreLed So (Act.Ask q ∷ rest) = AreLed So rest
-AreLed So (Act.Open w q ∷ rest) = AreLed So rest
+AreLed So (Act.Make w q ∷ rest) = AreLed So rest
 AreLed So (Act.Leave k ∷ rest) = AreLed So rest
 
 pub tells-more : (So Other : ℕ → Type 0) (e : Entry) → ((n : ℕ) → So n → Other n) → TellsOf So e
@@ -46,7 +46,7 @@ led-more So Other (Act.Shut k ∷ rest) f led =
 led-more So Other (Act.Tell e ∷ rest) f led =
     (tells-more So Other e f led.0, led-more So Other rest f led.1)
 led-more So Other (Act.Ask q ∷ rest) f led = led-more So Other rest f led
-led-more So Other (Act.Open w q ∷ rest) f led = led-more So Other rest f led
+led-more So Other (Act.Make w q ∷ rest) f led = led-more So Other rest f led
 led-more So Other (Act.Leave k ∷ rest) f led = led-more So Other rest f led
 
 -- ---- turns

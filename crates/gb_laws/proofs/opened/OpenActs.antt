@@ -5,7 +5,7 @@ use Rattle.std.specs.Prelude.{option_map, ◌==◌}
 use Rattle.gb_base.specs.declared.end.End.TheVariants as end
 use Rattle.gb_base.specs.declared.end.Side.TheVariants as side
 use Rattle.gb_base.specs.declared.entry.ConnState.TheVariants as state
-use Rattle.gb_base.specs.declared.peers.Link.{Link}
+use Rattle.gb_base.specs.declared.interface.Link.{Link}
 use Rattle.gb_machine.specs.Bus.{Bus, Connection, Request, connection_of, request_of}
 use Rattle.gb_machine.specs.Turns.{Act, Asking, Making}
 use Rattle.gb_machine.specs.Wiring.{attached, detached, new_connection, next_connection, shut_down}
@@ -139,7 +139,7 @@ opens-left {b} k rest f = record {
 -- a connection is made
 pub opens-opened : {b : Bus} {h : Host} (w : Making) (q : Asking) (rest : List Act)
     → ((c : Connection) → IsIn c b.connections → c.number ≤ b.made)
-    → Linked b h (Act.Open w q ∷ rest) → Opens b h (Act.Open w q ∷ rest)
+    → Linked b h (Act.Make w q ∷ rest) → Opens b h (Act.Make w q ∷ rest)
     → Opens (attached w.ap w.intf w.cport w.protocol b)
     (with_new_link (next_connection b) w.ap w.intf w.cport w.protocol h) (Act.Ask q ∷ rest)
 opens-opened {b} {h} w q rest range links f = record {

@@ -15,7 +15,7 @@ use Rattle.gb_laws.proofs.opened.OpenActs.{opens-left, opens-opened, opens-shut,
 use Rattle.gb_laws.proofs.opened.OpenActs.{upon-line}
 use Rattle.gb_laws.proofs.opened.Opens.{Opens, opens-act, opens-fewer, opens-host, opens-sent}
 use Rattle.gb_laws.proofs.points.Points.{Change, IsAsking, acts_asked, acts_failed, acts_left}
-use Rattle.gb_laws.proofs.points.Points.{acts_opened}
+use Rattle.gb_laws.proofs.points.Points.{acts_made}
 use Rattle.gb_laws.proofs.points.Points.{acts_shut, acts_told, asking, asks, changed, gives_up}
 use Rattle.gb_laws.proofs.points.Points.{gives, names}
 use Rattle.gb_laws.proofs.points.Points.{opening, serves, spends, turns}
@@ -57,7 +57,7 @@ opens-kept m a (acts_shut k rest free is cause) basis links h =
     opens-shut k rest (subst (Opens a.state.bus a.state.host) is h)
 opens-kept m a (acts_left k rest free untouched is) basis links h =
     opens-left k rest (subst (Opens a.state.bus a.state.host) is h)
-opens-kept m a (acts_opened w q rest free is) basis links h =
+opens-kept m a (acts_made w q rest free is) basis links h =
     opens-opened w q rest (λ c live.
     (each-in (IsMade a.state.bus) a.state.bus.connections c basis.bus.numbers.range live).1)
     (subst (Linked a.state.bus a.state.host) is links) (subst (Opens a.state.bus a.state.host) is h)
@@ -74,7 +74,7 @@ opens-kept m a (acts_failed q rest is quiet) basis links h =
     by : IsAsking q a.pending rest → Opens a.state.bus a.state.host rest
     by (asking e) = opens-act (Act.Ask q) (λ k y. y) (λ k f. absurd cc)
         (subst (Opens a.state.bus a.state.host) e h)
-    by (opening w e) = opens-act (Act.Open w q) (λ k y. y)
+    by (opening w e) = opens-act (Act.Make w q) (λ k y. y)
         (λ k f. absurd cc) (subst (Opens a.state.bus a.state.host) e h)
 opens-kept m a (serves k kind payload none) basis links h =
     opens-host (by (host-served k kind payload)) h

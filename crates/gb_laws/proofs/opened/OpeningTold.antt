@@ -11,7 +11,7 @@ use Rattle.gb_invariants.proofs.BusChanges.{Was, came, made_by, stayed, was, wen
 use Rattle.gb_invariants.proofs.Lists.{each-from, each-weaker, in-behind, in-front}
 use Rattle.gb_invariants.proofs.{Apart.SameEnds, Awaiting.none-some, Awaiting.same-some}
 use Rattle.gb_laws.proofs.basis.Basics.{Based, basis, basis-first, rested}
-use Rattle.gb_laws.proofs.points.Points.{Change, Law, acts_opened, changed, drops, upon}
+use Rattle.gb_laws.proofs.points.Points.{Change, Law, acts_made, changed, drops, upon}
 use Rattle.gb_laws.proofs.runs.Runs.{HoldsByMoments, throughout, weaker}
 use Rattle.gb_laws.proofs.{runs.AllRuns.SeesHappenings, points.ChangeBuses.bus_change}
 use Rattle.gb_laws.proofs.{points.ChangeBuses.by-bus}
@@ -47,7 +47,7 @@ opened-kept m a x h = by-bus (OpenedIn (changed m a x).told) x
   where
     new : (x : Change m a) (c : Connection) → made_by (bus_change x) a.state.bus ≡ Some c
         → WasOpened (changed m a x).told c
-    new (acts_opened w q rest free is) c e = subst (WasOpened _) (same-some _ c e)
+    new (acts_made w q rest free is) c e = subst (WasOpened _) (same-some _ c e)
         (w.intf, w.cport, refl, in-behind _ a.told (_ ∷ []) (inl refl))
     new _ c e = absurd (none-some e)
 

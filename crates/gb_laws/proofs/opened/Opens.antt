@@ -4,7 +4,7 @@ use Rattle.std.proofs.Common.{Bool, List, Some, ap, arith, false, inl, inr, refl
 use Rattle.std.proofs.Common.{ℕ, ⊎_elim, ◌∙◌, ◌∷◌, ◌≡◌, ◌≢◌, ◌⊎◌}
 use Rattle.std.specs.Prelude.{option_map}
 use Rattle.gb_base.specs.declared.end.Side.TheVariants as side
-use Rattle.gb_base.specs.declared.peers.Link.{Link}
+use Rattle.gb_base.specs.declared.interface.Link.{Link}
 use Rattle.gb_machine.proofs.Lists.{nth-past}
 use Rattle.gb_machine.specs.Bus.{Bus, Connection, Request, connection_of, next_number, request_of}
 use Rattle.gb_machine.specs.{Host.Host, LawsBus.is_awaited, Members.IsIn, Sending.Draft}

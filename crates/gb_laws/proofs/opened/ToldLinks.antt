@@ -5,7 +5,7 @@ use Rattle.gb_base.specs.declared.end.End.TheVariants as end
 use Rattle.gb_base.specs.declared.end.Side.TheVariants as side
 use Rattle.gb_base.specs.declared.entry.Entry.{Entry}
 use Rattle.gb_base.specs.declared.entry.Entry.TheVariants as entry
-use Rattle.gb_base.specs.declared.peers.Link.{Link}
+use Rattle.gb_base.specs.declared.interface.Link.{Link}
 use Rattle.gb_machine.specs.Bus.{Bus, Connection, next_number}
 use Rattle.gb_machine.specs.{Failures.unsent, Host.Host, Members.Each}
 use Rattle.gb_machine.specs.{Members.IsIn, Requests.open_on, Runs.Moment, Sending.sent, Turns.Act}
@@ -20,7 +20,7 @@ use Rattle.gb_laws.proofs.links.LinkTells.{ActsTell, TellsLink, turns-tell, unse
 use Rattle.gb_laws.proofs.links.Links.{ArePending, IsKnown, leaving, linked, supervisory}
 use Rattle.gb_laws.proofs.points.PointParts.{Basis, Point, is_silent, sent_told}
 use Rattle.gb_laws.proofs.points.Points.{Change, IsAsking, acts_asked, acts_failed, acts_left}
-use Rattle.gb_laws.proofs.points.Points.{acts_opened}
+use Rattle.gb_laws.proofs.points.Points.{acts_made}
 use Rattle.gb_laws.proofs.points.Points.{acts_shut, acts_told, answers, asking, asks, changed}
 use Rattle.gb_laws.proofs.points.Points.{drops}
 use Rattle.gb_laws.proofs.points.Points.{gives_up, injects, names, opening, replies, tells, turns}
@@ -40,7 +40,7 @@ abbrev pub ActsMatch : Bus → List Act → Type 0
 ActsMatch b [] = Unit {0}
 ActsMatch b (Act.Tell e ∷ rest) = Matches b e × ActsMatch b rest
 ActsMatch b (Act.Ask q ∷ rest) = ActsMatch b rest
-ActsMatch b (Act.Open w q ∷ rest) = ActsMatch b rest
+ActsMatch b (Act.Make w q ∷ rest) = ActsMatch b rest
 ActsMatch b (Act.Shut k ∷ rest) = ActsMatch b rest
 ActsMatch b (Act.Leave k ∷ rest) = ActsMatch b rest
 
@@ -73,7 +73,7 @@ acts-kept keeps [] h = tt
 acts-kept {b} keeps (Act.Tell e ∷ rest) h =
     (matches-kept b keeps e h.0, acts-kept keeps rest h.1)
 acts-kept keeps (Act.Ask q ∷ rest) h = acts-kept keeps rest h
-acts-kept keeps (Act.Open w q ∷ rest) h = acts-kept keeps rest h
+acts-kept keeps (Act.Make w q ∷ rest) h = acts-kept keeps rest h
 acts-kept keeps (Act.Shut k ∷ rest) h = acts-kept keeps rest h
 acts-kept keeps (Act.Leave k ∷ rest) h = acts-kept keeps rest h
 
@@ -136,7 +136,7 @@ links-match : (b : Bus) (h : Host) → ((e : Entry) → TellsLink h e → Matche
 links-match b h one [] t = tt
 links-match b h one (Act.Tell e ∷ rest) t = (one e t.0, links-match b h one rest t.1)
 links-match b h one (Act.Ask q ∷ rest) t = links-match b h one rest t
-links-match b h one (Act.Open w q ∷ rest) t = links-match b h one rest t
+links-match b h one (Act.Make w q ∷ rest) t = links-match b h one rest t
 links-match b h one (Act.Shut k ∷ rest) t = links-match b h one rest t
 links-match b h one (Act.Leave k ∷ rest) t = links-match b h one rest t
 
@@ -200,8 +200,8 @@ told-links_kept m a (acts_shut k rest free is cause) basis links h =
 told-links_kept m a (acts_left k rest free untouched is) basis links h =
     let t = told-act m a (acts_left k rest free untouched is) [] (Act.Leave k) rest is tt h in
     record { told = t.0; acts = t.1 }
-told-links_kept m a (acts_opened w q rest free is) basis links h =
-    let t = told-act m a (acts_opened w q rest free is) (_ ∷ []) (Act.Open w q) rest is (
+told-links_kept m a (acts_made w q rest free is) basis links h =
+    let t = told-act m a (acts_made w q rest free is) (_ ∷ []) (Act.Make w q) rest is (
       (
         omega arith,
         λ x live on. ⊎_elim
@@ -233,7 +233,7 @@ told-links_kept m a (acts_failed q rest is quiet) basis links h = record {
     none k i (asking e) = no-leave k (Act.Ask q) rest (λ f. absurd cc)
         (subst (ArePending a.state.host) e links.pending).0.1
         (subst (λ acts. IsIn (Act.Leave k) acts) e i)
-    none k i (opening w e) = no-leave k (Act.Open w q) rest (λ f. absurd cc)
+    none k i (opening w e) = no-leave k (Act.Make w q) rest (λ f. absurd cc)
         (subst (ArePending a.state.host) e links.pending).0.1
         (subst (λ acts. IsIn (Act.Leave k) acts) e i)
 

@@ -1,7 +1,7 @@
 -- What stays where a sequence waits for a request.
 use Rattle.std.proofs.Common.{Bool, List, None, Option, Some, cond, false, refl, true, ℕ, [], ◌++◌}
 use Rattle.std.proofs.Common.{◌∷◌, ◌≡◌}
-use Rattle.gb_base.specs.declared.peers.Link.{Link}
+use Rattle.gb_base.specs.declared.interface.Link.{Link}
 use Rattle.gb_base.specs.declared.steps.Purpose.{Purpose}
 use Rattle.gb_machine.specs.{Host.Host, Host.link_at, HostActs.made_for, HostActs.with_awaited}
 use Rattle.gb_machine.specs.{SequenceSteps.is_for_connection, State.State, Waits.awaits}

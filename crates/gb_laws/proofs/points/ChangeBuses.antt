@@ -3,7 +3,7 @@ use Rattle.std.proofs.Common.{refl, subst, sym, ◌≡◌}
 use Rattle.gb_machine.specs.{Bus.Bus, Bus.other_side, Delivery.answered, Incoming.reply_item}
 use Rattle.gb_machine.specs.{Runs.Moment}
 use Rattle.gb_invariants.proofs.BusChanges.{BusChange, KeepsRequests, bus_after, requests-after}
-use Rattle.gb_laws.proofs.points.Points.{Change, acts_asked, acts_left, acts_opened, acts_shut}
+use Rattle.gb_laws.proofs.points.Points.{Change, acts_asked, acts_left, acts_made, acts_shut}
 use Rattle.gb_laws.proofs.points.Points.{answers}
 use Rattle.gb_laws.proofs.points.Points.{asks, changed, forgets, gives_up, injects, names, replies}
 use Rattle.gb_laws.proofs.points.Points.{takes}
@@ -25,7 +25,7 @@ bus_change (unwires k free cut live) = BusChange.unwires k
 bus_change (injects i c p bytes free named) = BusChange.injects p.connection.number bytes
 bus_change (acts_shut k rest free is cause) = BusChange.shuts k
 bus_change (acts_left k rest free untouched is) = BusChange.leaves k
-bus_change (acts_opened w q rest free is) = BusChange.opens w.ap w.intf w.cport w.protocol
+bus_change (acts_made w q rest free is) = BusChange.opens w.ap w.intf w.cport w.protocol
 bus_change _ = BusChange.rests
 
 -- the bus behind a change

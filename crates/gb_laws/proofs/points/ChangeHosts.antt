@@ -12,7 +12,7 @@ use Rattle.gb_laws.proofs.links.LinkActs.{host-served}
 use Rattle.gb_laws.proofs.links.LinkActs.{unsent-due, unsent-making, with_images, with_more}
 use Rattle.gb_laws.proofs.links.LinkHosts.{Stay, credits-link, same-link, stay-changed, stay-same}
 use Rattle.gb_laws.proofs.points.Points.{Change, IsAsking, acts_asked, acts_failed, acts_left}
-use Rattle.gb_laws.proofs.points.Points.{acts_opened}
+use Rattle.gb_laws.proofs.points.Points.{acts_made}
 use Rattle.gb_laws.proofs.points.Points.{acts_shut, acts_told, asking, changed, opening, serves}
 use Rattle.gb_laws.proofs.points.Points.{spends}
 use Rattle.gb_laws.proofs.points.Points.{turns}
@@ -36,13 +36,13 @@ asks-kept m a (turns e free untouched none cause) still r j = absurd still
 asks-kept m a (acts_told e rest is quiet) still r j = fewer-asks a (Act.Tell e) is r j
 asks-kept m a (acts_shut k rest free is cause) still r j = fewer-asks a (Act.Shut k) is r j
 asks-kept m a (acts_left k rest free untouched is) still r j = fewer-asks a (Act.Leave k) is r j
-asks-kept m a (acts_opened w q rest free is) still r j = subst (AsksIn r) (sym is) (by j)
+asks-kept m a (acts_made w q rest free is) still r j = subst (AsksIn r) (sym is) (by j)
   where
     same : (x y : Asking) → Act.Ask x ≡ Act.Ask y → x ≡ y
     same x y e = cc
 
-    by : AsksIn r (Act.Ask q ∷ rest) → AsksIn r (Act.Open w q ∷ rest)
-    by (asks_in (inl e)) = opens_in w (inl (ap (Act.Open w) (same r q e)))
+    by : AsksIn r (Act.Ask q ∷ rest) → AsksIn r (Act.Make w q ∷ rest)
+    by (asks_in (inl e)) = opens_in w (inl (ap (Act.Make w) (same r q e)))
     by (asks_in (inr i)) = asks_in (inr i)
     by (opens_in v (inl e)) = absurd cc
     by (opens_in v (inr i)) = opens_in v (inr i)
@@ -51,7 +51,7 @@ asks-kept m a (acts_failed q rest is quiet) still r j = by is
   where
     by : IsAsking q a.pending rest → AsksIn r a.pending
     by (asking e) = fewer-asks a (Act.Ask q) e r j
-    by (opening w e) = fewer-asks a (Act.Open w q) e r j
+    by (opening w e) = fewer-asks a (Act.Make w q) e r j
 asks-kept m a _ still r j = j
 
 -- it isn't to wait for a request that was made either
@@ -80,7 +80,7 @@ waits-kept m a _ still = same-waits a.state.host
 pub stay-kept : (m : Moment) (a : Point) (x : Change m a) → TurnsNone m a x → LinkedAt a
     → Stay a.state.host.links (changed m a x).state.host.links
 stay-kept m a (turns e free untouched none cause) still links = absurd still
-stay-kept m a (acts_opened w q rest free is) still links =
+stay-kept m a (acts_made w q rest free is) still links =
     λ l i. (l, in-front l a.state.host.links (new_link _ w ∷ []) i, same-link l)
 stay-kept m a (acts_asked q n rest is) still links =
     subst (λ (g : Host). Stay a.state.host.links g.links) (sym (awaited-host q.purpose n a.state))

@@ -16,7 +16,7 @@ use Rattle.gb_machine.specs.Wiring.{all_ended, shut_down, with_connection}
 use Rattle.gb_invariants.proofs.Awaiting.{is-open, opened, sent-request}
 use Rattle.gb_invariants.proofs.Outcomes.{in-open_requests, lookup-past, open_requests-in}
 use Rattle.gb_laws.proofs.points.PointParts.{IsLate, IsShutFor, Point, disconnected, idle, removed}
-use Rattle.gb_laws.proofs.points.Points.{Change, acts_asked, acts_failed, acts_left, acts_opened}
+use Rattle.gb_laws.proofs.points.Points.{Change, acts_asked, acts_failed, acts_left, acts_made}
 use Rattle.gb_laws.proofs.points.Points.{acts_shut, acts_told, asks, by_far, by_host, by_loader}
 use Rattle.gb_laws.proofs.points.Points.{changed, tells, turns}
 use Rattle.gb_laws.proofs.{points.Awaited.awaited-rest, steps.LoadFailures.load-fails}
@@ -111,7 +111,7 @@ overdue-kept m k a (acts_shut j rest free at cause) is h =
     (shut-idle m j h.late.millis a.state.bus h.late.event cause)) refl h
 overdue-kept m k a (acts_left j rest free untouched at) is h =
     overdue-same m k refl refl refl h
-overdue-kept m k a (acts_opened w q rest free at) is h = overdue-same m k refl refl refl h
+overdue-kept m k a (acts_made w q rest free at) is h = overdue-same m k refl refl refl h
 overdue-kept m k a (acts_asked q n rest at) is h =
     let r = awaited-rest q.purpose n in
     overdue-same m k

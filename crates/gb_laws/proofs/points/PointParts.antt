@@ -15,7 +15,7 @@ use Rattle.gb_base.specs.declared.host_event.HostEvent.{HostEvent}
 use Rattle.gb_base.specs.declared.name.Name.{Name}
 use Rattle.gb_base.specs.declared.outcome.Outcome.{Outcome}
 use Rattle.gb_base.specs.declared.outcome.Outcome.TheVariants as outcome
-use Rattle.gb_base.specs.declared.peers.Link.{Link}
+use Rattle.gb_base.specs.declared.interface.Link.{Link}
 use Rattle.gb_machine.specs.Bus.{Bus, Connection, Item, Place, Request, next_number, other_side}
 use Rattle.gb_machine.specs.Bus.{place_of, queue, request_of}
 use Rattle.gb_machine.specs.Incoming.{Incoming, reply_item, request_in}

@@ -14,7 +14,7 @@ use Rattle.gb_base.specs.declared.host_event.HostEvent.TheVariants as host_event
 use Rattle.gb_base.specs.declared.name.Name.{Name}
 use Rattle.gb_base.specs.declared.outcome.Outcome.{Outcome}
 use Rattle.gb_base.specs.declared.outcome.Outcome.TheVariants as outcome
-use Rattle.gb_base.specs.declared.peers.Link.{Link}
+use Rattle.gb_base.specs.declared.interface.Link.{Link}
 use Rattle.gb_base.specs.declared.download.Next.TheVariants as next
 use Rattle.gb_formats.specs.Images.{image_of}
 use Rattle.gb_formats.specs.Module.{Module}
@@ -62,7 +62,7 @@ pub use Rattle.gb_laws.proofs.points.PointParts.{replied_to, resting, sent_told,
 -- an acting of which the request is still to be made, at the front of those that are pending
 pub data IsAsking (q : Asking) (pending rest : List Act) : Type 0 where
   asking : pending ≡ Act.Ask q ∷ rest → IsAsking q pending rest
-  opening : (w : Making) → pending ≡ Act.Open w q ∷ rest → IsAsking q pending rest
+  opening : (w : Making) → pending ≡ Act.Make w q ∷ rest → IsAsking q pending rest
 
 -- whether the wire of a live connection of a module is there
 pub record IsLive (k : ℕ) (wire : Bool) (b : Bus) : Type 0 where
@@ -282,8 +282,8 @@ pub data Change (m : Moment) (a : Point) : Type 0 where
       → IsShutFor m k a.state.bus → Change m a
   acts_left : (k : ℕ) (rest : List Act) → a.hand ≡ None → a.wires ≡ Untouched
       → a.pending ≡ Act.Leave k ∷ rest → Change m a
-  acts_opened : (w : Making) (q : Asking) (rest : List Act) → a.hand ≡ None
-      → a.pending ≡ Act.Open w q ∷ rest → Change m a
+  acts_made : (w : Making) (q : Asking) (rest : List Act) → a.hand ≡ None
+      → a.pending ≡ Act.Make w q ∷ rest → Change m a
   acts_asked : (q : Asking) (n : ℕ) (rest : List Act)
       → (a.pending ≡ Act.Ask q ∷ rest) × (a.asked ≡ Some (q, n)) → Change m a
   acts_failed : (q : Asking) (rest : List Act) → IsAsking q a.pending rest
@@ -359,7 +359,7 @@ changed m a (acts_shut k rest free is cause) =
     a) { pending = rest }
 changed m a (acts_left k rest free untouched is) =
     record (on_bus (detached k a.state.bus) [] a) { pending = rest }
-changed m a (acts_opened w q rest free is) =
+changed m a (acts_made w q rest free is) =
     record (on (with_made w a.state)
     (entry.Connection (next_connection a.state.bus) w.ap w.intf w.cport state.Opening ∷ []) a)
     { pending = Act.Ask q ∷ rest }

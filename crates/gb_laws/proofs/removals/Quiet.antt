@@ -3,7 +3,7 @@
 use Rattle.std.proofs.Common.{Bool, List, None, Some, ap, arith, false, inl, inr, refl, subst, sym}
 use Rattle.std.proofs.Common.{true, ℕ, ⊎_elim, [], ◌++◌, ◌∙◌, ◌∷◌, ◌≡◌, ◌≤◌, ◌⊎◌}
 use Rattle.gb_base.specs.declared.end.Side.TheVariants as side
-use Rattle.gb_base.specs.declared.peers.Interface.{Interface}
+use Rattle.gb_base.specs.declared.interface.Interface.{Interface}
 use Rattle.gb_base.specs.declared.steps.SequenceStep.{SequenceStep}
 use Rattle.gb_base.specs.declared.steps.SequenceStep.TheVariants as steps
 use Rattle.gb_machine.specs.Bus.{Bus, Request, request_of}

@@ -19,7 +19,8 @@ use Rattle.gb_laws.proofs.links.Links.{IsKnown, leaving, linked, supervisory}
 use Rattle.gb_laws.proofs.points.PointParts.{Basis, Point, resting}
 use Rattle.gb_laws.proofs.points.Points.{IsAfterReply, IsServing, replied_to, unreplied}
 use Rattle.gb_laws.proofs.removals.QuietBuses.{IsPut, popped-far, put-queues, put-svc}
-use Rattle.gb_laws.proofs.{links.LinkFrom.Linked, marks.MarkNotices.numbered-ask}
+use Rattle.gb_invariants.proofs.Requests.{numbered-ask}
+use Rattle.gb_laws.proofs.{links.LinkFrom.Linked}
 use Rattle.gb_laws.proofs.{points.Places.place-is}
 use Rattle.gb_laws.proofs.{removals.Quiet.is_removed, removals.QuietReplies.reply-no-removal}
 use Rattle.gb_laws.proofs.{svc.SvcThere.There}

@@ -93,4 +93,4 @@ quiet-failed i a q rest basis is state hand asked pending h =
   where
     by : IsAsking q a.pending rest → (r : Asking) → AsksIn r rest → AsksIn r a.pending
     by (asking e) r j = subst (AsksIn r) (sym e) (asks-more r (Act.Ask q) j)
-    by (opening w e) r j = subst (AsksIn r) (sym e) (asks-more r (Act.Open w q) j)
+    by (opening w e) r j = subst (AsksIn r) (sym e) (asks-more r (Act.Make w q) j)

@@ -7,7 +7,7 @@ use Rattle.gb_laws.proofs.links.LinkLives.{AreAlive, alive-kept}
 use Rattle.gb_laws.proofs.links.LinkRuns.{LinkedTo, start-absent, there_law}
 use Rattle.gb_laws.proofs.points.Points.{Basis, Law, Point, resting, upon}
 use Rattle.gb_laws.proofs.{links.LinkKept.LinkedAt, runs.Noticing.knows-reached}
-use Rattle.gb_laws.proofs.{runs.Reached.reached-told}
+use Rattle.gb_laws.proofs.{runs.OfStates.reached-told}
 use Rattle.gb_laws.proofs.{svc.SvcThere.There}
 
 -- what is known at rest, whatever was told

@@ -1,22 +1,25 @@
 -- What is known of connections goes over what the application processor does where a request ended,
--- and where a connection begins to drain.
-use Rattle.std.proofs.Common.{None, [], refl, ℕ, ◌≡◌}
+-- and where a connection begins to drain, and makes what it does next possible.
+use Rattle.std.proofs.Common.{None, Option, Some, [], ap, false, is_none, refl, true, ℕ}
+use Rattle.std.proofs.Common.{◌==◌, ◌∙◌, ◌≡◌}
 use Rattle.gb_base.specs.declared.event.Event.TheVariants as event
 use Rattle.gb_base.specs.declared.end.Side.{Side}
 use Rattle.gb_base.specs.declared.host_event.HostEvent.TheVariants as host_event
 use Rattle.gb_base.specs.declared.outcome.Outcome.{Outcome}
 use Rattle.gb_machine.proofs.Opened.{machine_opened}
-use Rattle.gb_machine.specs.Bus.{Bus}
+use Rattle.gb_machine.specs.Bus.{Bus, Connection, connection_of, has_number}
 use Rattle.gb_machine.specs.Delivery.{ended, popped}
 use Rattle.gb_machine.specs.Host.{Host}
 use Rattle.gb_machine.specs.HostActs.{notices}
 use Rattle.gb_machine.specs.Reached.{OfARun}
 use Rattle.gb_machine.specs.Refusals.{refusal}
+use Rattle.gb_machine.specs.Members.{IsIn}
 use Rattle.gb_machine.specs.Requests.{gave_up}
 use Rattle.gb_machine.specs.Runs.{Moment}
 use Rattle.gb_machine.specs.State.{State}
-use Rattle.gb_invariants.proofs.Awaiting.{none-some}
+use Rattle.gb_invariants.proofs.Awaiting.{none-some, not-both}
 use Rattle.gb_invariants.proofs.BusChanges.{BusChange}
+use Rattle.gb_invariants.proofs.{Found.find-none, Lists.found-in}
 use Rattle.gb_invariants.proofs.HostChanges.{Notice, at_event, turn_of}
 use Rattle.gb_invariants.proofs.ModuleTurns.{takes_notice}
 use Rattle.gb_invariants.proofs.Wires.{alive-after}
@@ -24,13 +27,15 @@ use Rattle.gb_laws.proofs.links.ActsFit.{ever-fit, fit-other}
 use Rattle.gb_laws.proofs.links.LinkChanges.{linked-ended, linked-gave_up, linked-popped}
 use Rattle.gb_laws.proofs.links.LinkKept.{InsertsAbsent, LinkedAt, linked-kept}
 use Rattle.gb_laws.proofs.links.LinkLives.{AreAlive, alive-from, alive-kept}
+use Rattle.gb_laws.proofs.links.Possible.{possible}
 use Rattle.gb_laws.proofs.points.PointParts.{IsCaused}
 use Rattle.gb_laws.proofs.steps.StepActs.{goes-acts}
-use Rattle.gb_laws.proofs.links.Turned.{TurnsTo, turned-drains, turned-ended}
+use Rattle.gb_laws.proofs.links.Turned.{TurnsTo, turned, turned-ended, turned-idle}
 use Rattle.gb_laws.proofs.{links.LinkFrom.Linked, links.LinkSources.from-turn}
-use Rattle.gb_laws.proofs.{runs.Reached.reached-has}
+use Rattle.gb_laws.proofs.{runs.OfStates.reached-has}
 use Rattle.gb_laws.proofs.{creations.RememberedLive.SinceTo}
 use Rattle.gb_laws.proofs.{creations.RememberedLive.since-throughout, runs.Runs.weaker}
+use Rattle.gb_laws.specs.Possible.{MayFollow, MayIdle}
 
 -- What is known of connections: they go with those that the application processor knows, and each
 -- of these is live.
@@ -75,10 +80,10 @@ pub knows-drains : (i c : ℕ) (s : State) → refusal s (event.Drain i c) ≡ N
     → KnowsAt (notices (host_event.Drain i c) s).state
 unfolding machine_opened
 knows-drains i c s allowed f =
-    noticed-known (record { told = []; event = event.Drain i c; before = s })
-    (at_event (host_event.Drain i c)) s
+    let m : Moment = record { told = []; event = event.Drain i c; before = s } in
+    noticed-known m (at_event (host_event.Drain i c)) s
     (λ p count j noticed. let at = noticed.event in absurd cc) (λ k e. absurd cc)
-    (refl, refl, allowed) (turned-drains s i c allowed f.links) f.alive
+    (refl, refl, allowed) (turned m (host_event.Drain i c) (refl, refl, allowed) f.links) f.alive
 
 -- ---- where it is known
 
@@ -102,3 +107,31 @@ knows-over n how f = record { links = linked-ended n how f.links; alive = f.aliv
 pub knows-gave_up : {b : Bus} {h : Host} (n : ℕ) (how : Outcome) → Knows b h
     → Knows (gave_up n how b) h
 knows-gave_up n how f = record { links = linked-gave_up n how f.links; alive = f.alive }
+
+-- ---- what is possible there
+
+-- nothing is open on a connection
+pub may-idle : (k : ℕ) (s : State) → KnowsAt s → MayIdle k s
+may-idle k s f = record {
+  live = λ l is.
+      let found = found-in (λ l. l.connection == k) s.host.links l is in
+      let c = f.alive l found.0 in
+      there c.connection c.live (ap (λ n. n == k) c.number ∙ found.1)
+      (connection_of k s.bus) refl;
+  turn = (tt, possible _ (turned-idle k f.links));
+}
+  where
+    there : (c : Connection) → IsIn c s.bus.connections → has_number k c ≡ true
+        → (o : Option Connection) → connection_of k s.bus ≡ o → is_none o ≡ false
+    there c live is None e =
+        absurd (not-both (has_number k c) is
+        (find-none (has_number k) s.bus.connections c e live))
+    there c live is (Some d) e = refl
+
+-- a request ended
+pub may-follow : (n : ℕ) (how : Outcome) (s : State)
+    → KnowsAt s → MayFollow n how s
+may-follow n how s f = record {
+  turn = (tt, possible _ (turned-ended n how f.links));
+  idle = λ k. may-idle k (notices (host_event.Ended n how) s).state (knows-ended n how s f);
+}

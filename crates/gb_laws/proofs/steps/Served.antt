@@ -4,7 +4,7 @@ use Rattle.std.proofs.Common.{Bool, List, None, Option, Some, cond, false, refl,
 use Rattle.std.specs.Prelude.{Err, Ok, Result, ◌==◌}
 use Rattle.gb_base.specs.declared.entry.Entry.{Entry}
 use Rattle.gb_base.specs.declared.host_event.HostEvent.TheVariants as host_event
-use Rattle.gb_base.specs.declared.peers.Link.{Link}
+use Rattle.gb_base.specs.declared.interface.Link.{Link}
 use Rattle.gb_formats.specs.{GpioRecords.GpioAsk, GpioRecords.read_gpio_ask_of_module}
 use Rattle.gb_formats.specs.{Records.PayloadFault, SvcRecords.SvcAsk}
 use Rattle.gb_formats.specs.{SvcRecords.read_svc_ask_of_svc, UartDevice.credits_added}

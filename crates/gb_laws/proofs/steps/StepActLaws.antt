@@ -3,7 +3,7 @@ use Rattle.gb_machine.specs.Runs.{Moment}
 use Rattle.gb_machine.specs.Bus.{Connection}
 use Rattle.gb_machine.specs.Sending.{Draft}
 use Rattle.gb_laws.proofs.points.Points.{Change, IsAskedBy, Law, acts_asked, acts_failed, acts_left}
-use Rattle.gb_laws.proofs.points.Points.{acts_opened, acts_shut, acts_told, asks, by_far, by_host}
+use Rattle.gb_laws.proofs.points.Points.{acts_made, acts_shut, acts_told, asks, by_far, by_host}
 use Rattle.gb_laws.proofs.points.Points.{by_loader, changed, tells, turns}
 use Rattle.gb_laws.proofs.points.PointParts.{Point}
 
@@ -22,7 +22,7 @@ IsActing m a (turns e free untouched none cause) = Unit {0}
 IsActing m a (acts_told e rest is quiet) = Unit {0}
 IsActing m a (acts_shut k rest free is cause) = Unit {0}
 IsActing m a (acts_left k rest free untouched is) = Unit {0}
-IsActing m a (acts_opened w q rest free is) = Unit {0}
+IsActing m a (acts_made w q rest free is) = Unit {0}
 IsActing m a (acts_asked q n rest is) = Unit {0}
 IsActing m a (acts_failed q rest is quiet) = Unit {0}
 IsActing m a _ = ⊥

@@ -8,8 +8,8 @@ use Rattle.gb_base.specs.declared.entry.Entry.TheVariants as entry
 use Rattle.gb_machine.proofs.Opened.{machine_opened}
 use Rattle.gb_machine.specs.Actions.{Action, change, each, given, on_host, tell, ◌▸◌}
 use Rattle.gb_machine.specs.Bus.{Connection, connection_of, next_number}
-use Rattle.gb_machine.specs.HostActs.{acts, asked_with, fails, host_asks, host_draft, host_opens}
-use Rattle.gb_machine.specs.HostActs.{opened_with, with_awaited, with_made}
+use Rattle.gb_machine.specs.HostActs.{acts, asked_with, fails, host_asks, host_draft, host_makes}
+use Rattle.gb_machine.specs.HostActs.{made_with, with_awaited, with_made}
 use Rattle.gb_machine.specs.Turns.{Act, Asking, Making}
 use Rattle.gb_machine.specs.{Asking.asked, Asking.asks_with, Failures.unsent}
 use Rattle.gb_machine.specs.{Labels.cyclic_label, Labels.next_label, Runs.Moment}
@@ -19,7 +19,7 @@ use Rattle.gb_invariants.proofs.HostChanges.{Notice, turn_of}
 use Rattle.gb_invariants.proofs.ModuleTurns.{takes_notice}
 use Rattle.gb_laws.proofs.links.ActsFit.{AreFit, IsFit, ever-fit, fit-turn, quiet-unsent}
 use Rattle.gb_laws.proofs.points.Points.{IsAsking, IsOver, acts_asked, acts_failed, acts_left}
-use Rattle.gb_laws.proofs.points.Points.{acts_opened}
+use Rattle.gb_laws.proofs.points.Points.{acts_made}
 use Rattle.gb_laws.proofs.points.Points.{acts_shut, acts_told, asking, asks, by_host, opening}
 use Rattle.gb_laws.proofs.points.Points.{turns}
 use Rattle.gb_laws.proofs.steps.StepActions.{At, Goes, goes-nothing, goes-▸}
@@ -69,25 +69,25 @@ module _ (m : Moment) (law : ActLaw m) where
       by (Some label) e =
           made (connection_of q.on s.bus) refl (next_label q.on side.Ap s.bus) refl label e
 
-  goes-host_opens : (w : Making) (q : Asking) (rest : List Act) (s : State)
-      → Acts (Act.Open w q ∷ rest) rest (host_opens w q) s
+  goes-host_makes : (w : Making) (q : Asking) (rest : List Act) (s : State)
+      → Acts (Act.Make w q ∷ rest) rest (host_makes w q) s
   unfolding machine_opened
-  goes-host_opens w q rest s = by (next_label q.on side.Ap s.bus)
+  goes-host_makes w q rest s = by (next_label q.on side.Ap s.bus)
     where
-      by : (o : Option ℕ) → Acts (Act.Open w q ∷ rest) rest (opened_with o w q) s
+      by : (o : Option ℕ) → Acts (Act.Make w q ∷ rest) rest (made_with o w q) s
       by None = goes-fails q rest s (opening w refl)
       by (Some label) =
           goes-▸ m law
           (change (with_made w) ▸ tell (entry.Connection (next_connection s.bus) w.ap w.intf w.cport
           state.Opening)) (host_asks q)
-          (λ told at. law.kept _ (acts_opened w q rest refl refl) tt at)
+          (λ told at. law.kept _ (acts_made w q rest refl refl) tt at)
           (goes-host_asks q rest (with_made w s))
 
   goes-act : (x : Act) (rest : List Act) (s : State) → IsFit m s.bus x
       → Acts (x ∷ rest) rest (acts x) s
   unfolding machine_opened
   goes-act (Act.Ask q) rest s fit told at = goes-host_asks q rest s told at
-  goes-act (Act.Open w q) rest s fit told at = goes-host_opens w q rest s told at
+  goes-act (Act.Make w q) rest s fit told at = goes-host_makes w q rest s told at
   goes-act (Act.Shut k) rest s fit told at = law.kept _ (acts_shut k rest refl refl fit) tt at
   goes-act (Act.Leave k) rest s fit told at = law.kept _ (acts_left k rest refl refl refl) tt at
   goes-act (Act.Tell e) rest s fit told at = law.kept _ (acts_told e rest refl fit) tt at

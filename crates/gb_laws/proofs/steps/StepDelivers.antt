@@ -8,7 +8,7 @@ use Rattle.gb_base.specs.declared.end.Side.TheVariants as side
 use Rattle.gb_base.specs.declared.entry.Entry.{Entry}
 use Rattle.gb_base.specs.declared.entry.Entry.TheVariants as entry
 use Rattle.gb_base.specs.declared.event.Event.TheVariants as event
-use Rattle.gb_base.specs.declared.fault.RawFault.{RawFault}
+use Rattle.gb_base.specs.declared.reasons.RawFault.{RawFault}
 use Rattle.gb_formats.specs.{Message.Message, Wire.raw_message}
 use Rattle.gb_machine.proofs.Opened.{machine_opened}
 use Rattle.gb_machine.specs.Actions.{given, nothing, on_bus, tell, ◌▸◌}

@@ -1,4 +1,4 @@
--- A law of points goes over the step of each event.
+-- A law of points goes over what an event does in several changes.
 use Rattle.std.proofs.Common.{List, None, Option, Some, ap, false, inl, inr, map, refl, subst, sym}
 use Rattle.std.proofs.Common.{true, ℕ, ⊎_elim, [], ◌++◌, ◌+◌, ◌<◌, ◌∙◌, ◌∷◌, ◌≡◌}
 use Rattle.std.specs.Prelude.{Err, Ok, Result, is_none, is_some, option_and_then}
@@ -12,10 +12,10 @@ use Rattle.gb_base.specs.declared.event.Event.TheVariants as event
 use Rattle.gb_base.specs.declared.name.Name.{Name}
 use Rattle.gb_base.specs.declared.outcome.Outcome.{Outcome}
 use Rattle.gb_base.specs.declared.outcome.Outcome.TheVariants as outcome
-use Rattle.gb_base.specs.declared.peers.Link.{Link}
+use Rattle.gb_base.specs.declared.interface.Link.{Link}
 use Rattle.gb_base.specs.declared.refusal.Refusal.TheVariants as why
 use Rattle.gb_formats.specs.{Bridges.BridgeFault, Bridges.bridge_answer, Devices.Stir}
-use Rattle.gb_formats.specs.{Grammar.default_timeout, Images.image_of, Module.Module}
+use Rattle.gb_formats.specs.{Grammar.default_timeout, Module.Module}
 use Rattle.gb_formats.specs.{ModuleLoads.loader_at, ModuleSteps.module_stir, Results.Stirred}
 use Rattle.gb_formats.specs.{Results.success}
 use Rattle.gb_machine.proofs.{Conditions.AreUnmet, Conditions.free, Opened.machine_opened}
@@ -23,15 +23,14 @@ use Rattle.gb_machine.proofs.{Options.none-of}
 use Rattle.gb_machine.specs.Actions.{by_state, change, given, on_bus, on_host, tell, ◌▸◌}
 use Rattle.gb_machine.specs.Bus.{Connection, Place, Request, connection_of, is_open, next_number}
 use Rattle.gb_machine.specs.Bus.{outcome_of, request_of}
-use Rattle.gb_machine.specs.Host.{is_link, link_at, with_given, with_link}
+use Rattle.gb_machine.specs.Host.{is_link, link_at, with_link}
 use Rattle.gb_machine.specs.HostRefusals.{bridge_conditions, is_ending, is_kept, link_conditions}
 use Rattle.gb_machine.specs.Labels.{cyclic_label, next_label}
-use Rattle.gb_machine.specs.LineActions.{ap_draft, bridge_sent, bridges, copies, holds, injects}
+use Rattle.gb_machine.specs.LineActions.{ap_draft, bridge_sent, bridges, injects}
 use Rattle.gb_machine.specs.LineActions.{injects_at, sends, sends_on, spent, stirred, stirs}
-use Rattle.gb_machine.specs.LineActions.{with_hold}
 use Rattle.gb_machine.specs.Refusals.{has_no_label, is_long_payload, module_place, refusal}
 use Rattle.gb_machine.specs.{Arriving.state_takes, Asking.asks_with, Events.shows, GivingUp.cancels}
-use Rattle.gb_machine.specs.{GivingUp.gives_up, Holding.marked, HostActs.follows}
+use Rattle.gb_machine.specs.{GivingUp.gives_up, HostActs.follows}
 use Rattle.gb_machine.specs.{Lists.conditions_of, Lists.holds_of, Members.IsIn, Modules.module_at}
 use Rattle.gb_machine.specs.{Modules.with_module, Names.bound, Names.named, OwnAsking.far_asks_all}
 use Rattle.gb_machine.specs.{Requests.gave_up, Runs.Moment, Sending.Draft, Show.lines_shown}
@@ -39,15 +38,16 @@ use Rattle.gb_machine.specs.{Show.shown, State.State}
 use Rattle.gb_invariants.proofs.{Awaiting.is-open, Awaiting.not-both, Lists.at_first-back}
 use Rattle.gb_invariants.proofs.{Lists.found-in}
 use Rattle.gb_laws.proofs.points.PointParts.{AreSilent, IsGivenUpFor, Untouched}
-use Rattle.gb_laws.proofs.points.Points.{IsBridge, IsPlain, Law, as_before, binds, gives}
+use Rattle.gb_laws.proofs.points.Points.{IsBridge, IsPlain, Law, as_before}
 use Rattle.gb_laws.proofs.points.Points.{gives_up as giving_up, injects as injecting, loader_in}
 use Rattle.gb_laws.proofs.points.Points.{names, others, spends}
-use Rattle.gb_laws.proofs.svc.StayPlugged.{module-plugs, open-takes, place-module, same-plugs}
-use Rattle.gb_laws.proofs.steps.LoaderStays.{keeps-module, module-there, same-loaders, stir-keeps}
+use Rattle.gb_laws.proofs.svc.StayPlugged.{module-plugs, open-takes, place-module}
+use Rattle.gb_laws.proofs.steps.LoaderStays.{stir-keeps}
+use Rattle.gb_laws.proofs.steps.LoadersPlugged.{keeps-module, module-there}
 use Rattle.gb_laws.proofs.steps.StepActions.{At, goes-far_asks_all, goes-tell_all}
 use Rattle.gb_laws.proofs.steps.StepPlugs.{Rests, rests-nothing, rests-▸}
 use Rattle.gb_laws.proofs.points.LowTypes.{AreLow, bridge-low, stir-low}
-use Rattle.gb_laws.proofs.{points.Naming.made-named, points.Places.place-marked}
+use Rattle.gb_laws.proofs.{points.Naming.made-named}
 use Rattle.gb_laws.proofs.{steps.StepActLaws.acting}
 use Rattle.gb_laws.proofs.steps.StepLoads.{goes-follows}
 
@@ -79,14 +79,6 @@ module _ (m : Moment) (law : Law m) where
       by None e (Some label) f =
           absurd (not-both (is_none (next_label k side.Ap s.bus))
           (ap (λ o. is_none (option_and_then (cyclic_label k side.Ap s.bus) o)) e) left)
-
-  pub rests-copies : (x y : Name) (s : State) → Rests m law (copies x y) s
-  unfolding machine_opened
-  rests-copies x y s = by (named x s.names) refl
-    where
-      by : (o : Option ℕ) → named x s.names ≡ o → Rests m law (given o (λ n. change (bound y n))) s
-      by None e = rests-nothing m law s
-      by (Some n) e = λ told at. law.kept _ (binds x y n e) at
 
   pub rests-sends : (name : Name) (to : End) (kind : ℕ) (payload : List ℕ) (timeout : ℕ) (s : State)
       → refusal s (event.Send name to kind payload timeout) ≡ None → kind < 128
@@ -197,33 +189,6 @@ module _ (m : Moment) (law : Law m) where
           → Rests m law (given o (λ x. given (module_stir x c stir) (stirred i c))) s
       at_module None e = rests-nothing m law s
       at_module (Some x) e = stirred_by x e (module_stir x c stir) refl
-
-  pub rests-holds : (i c : ℕ) (s : State) → Rests m law (holds i c) s
-  unfolding machine_opened
-  rests-holds i c s = by (module_place i c s) refl
-    where
-      by : (o : Option Place) → module_place i c s ≡ o
-          → Rests m law (given o (λ p. change (with_hold p.connection.number))) s
-      by None e = rests-nothing m law s
-      by (Some p) e = λ told at. law.kept _ (others s.booted (marked p.connection.number s.holds)
-          s.ports s.modules (
-            inl (
-              same-plugs s,
-              as_before refl,
-              record { hand = refl; pending = refl; asked = refl },
-              place-marked i c s p e,
-            ),
-            same-loaders s.modules,
-          )) at
-
-  -- an image is given
-  pub rests-gives : (tag bytes : List ℕ) → m.event ≡ event.Image tag bytes
-      → refusal m.before (event.Image tag bytes) ≡ None
-      → Rests m law (on_host (with_given tag bytes)) m.before
-  unfolding machine_opened
-  rests-gives tag bytes is allowed told at =
-      law.kept _ (gives tag bytes (refl, is) (none-of (image_of tag m.before.host.images)
-      (free m.before (event.Image tag bytes) allowed).0)) at
 
   pub rests-injects : (i c : ℕ) (bytes : List ℕ) (s : State) → Rests m law (injects i c bytes) s
   unfolding machine_opened

@@ -47,13 +47,14 @@ use Rattle.gb_laws.proofs.points.PointParts.{Point, Untouched, Wires, sent_told}
 use Rattle.gb_laws.proofs.points.Places.{module-far, place-is}
 use Rattle.gb_laws.proofs.points.Points.{Change, Going, HearsBack, IsFarAsking, IsGoing, IsHeard}
 use Rattle.gb_laws.proofs.points.Points.{IsOver, Law, acts_asked, acts_failed, acts_left}
-use Rattle.gb_laws.proofs.points.Points.{acts_opened, acts_shut, acts_told, as_before, asks, begins}
+use Rattle.gb_laws.proofs.points.Points.{acts_made, acts_shut, acts_told, as_before, asks, begins}
 use Rattle.gb_laws.proofs.points.Points.{by_far, by_host, by_loader, by_module, changed, continues}
 use Rattle.gb_laws.proofs.points.Points.{finishes, loads_gone, modules_gone, others, tells}
 use Rattle.gb_laws.proofs.points.Points.{trails_gone, turns}
 use Rattle.gb_laws.proofs.steps.LoaderEnds.{IsSuccess, ModuleFollows, asks as follows_asks, done}
 use Rattle.gb_laws.proofs.steps.LoaderEnds.{failed, module-follows}
-use Rattle.gb_laws.proofs.steps.LoaderStays.{KeepsEach, keeps-module}
+use Rattle.gb_laws.proofs.steps.LoaderStays.{KeepsEach}
+use Rattle.gb_laws.proofs.steps.LoadersPlugged.{keeps-module}
 use Rattle.gb_laws.proofs.steps.StepActLaws.{ActLaw, IsActing, acting}
 use Rattle.gb_laws.proofs.steps.StepActions.{At, Stays, goes-nothing, goes-tell, goes-▸}
 use Rattle.gb_laws.proofs.steps.StepIdles.{goes-host_follows}
@@ -76,7 +77,7 @@ still-kept m modules loads a (turns e free untouched none cause) is h = h
 still-kept m modules loads a (acts_told e rest at quiet) is h = h
 still-kept m modules loads a (acts_shut j rest free at cause) is h = h
 still-kept m modules loads a (acts_left j rest free untouched at) is h = h
-still-kept m modules loads a (acts_opened w q rest free at) is h = h
+still-kept m modules loads a (acts_made w q rest free at) is h = h
 still-kept m modules loads a (acts_asked q n rest at) is h =
     let r = awaited-rest q.purpose n in (r.modules ∙ h.0, r.loads ∙ h.1)
 still-kept m modules loads a (acts_failed q rest at quiet) is h = h

@@ -6,7 +6,7 @@ use Rattle.std.proofs.lemmas.Bool.Decides.{nat_tests}
 use Rattle.std.specs.Prelude.{◌==◌}
 use Rattle.gb_base.specs.declared.entry.Entry.{Entry}
 use Rattle.gb_base.specs.declared.host_event.HostEvent.TheVariants as host_event
-use Rattle.gb_base.specs.declared.peers.Link.{Link}
+use Rattle.gb_base.specs.declared.interface.Link.{Link}
 use Rattle.gb_machine.proofs.Opened.{machine_opened}
 use Rattle.gb_machine.specs.Actions.{Told, each}
 use Rattle.gb_machine.specs.Host.{Host, interface_of, interfaces_of}

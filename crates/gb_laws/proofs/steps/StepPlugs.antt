@@ -12,7 +12,7 @@ use Rattle.gb_machine.specs.{Members.Each, Modules.is_primary, OwnAsking.svc_ask
 use Rattle.gb_machine.specs.{OwnAsking.svc_own, Runs.Moment, State.Plugged, State.State}
 use Rattle.gb_laws.proofs.points.LowTypes.{svc-low}
 use Rattle.gb_laws.proofs.points.Points.{IsOfSvc, Law, by_svc, others}
-use Rattle.gb_laws.proofs.steps.LoaderStays.{AreFirst, keeps-plugged, same-loaders}
+use Rattle.gb_laws.proofs.steps.LoadersPlugged.{AreFirst, keeps-plugged, same-loaders}
 use Rattle.gb_laws.proofs.steps.StepActions.{Goes, goes-far_asks, goes-nothing, goes-when, goes-▸}
 use Rattle.gb_laws.proofs.{points.PointParts.Untouched, steps.StepActLaws.acting}
 use Rattle.gb_laws.proofs.{svc.StayPlugged.powered-off}

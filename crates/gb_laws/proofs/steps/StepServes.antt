@@ -25,8 +25,8 @@ use Rattle.gb_laws.proofs.steps.Delivered.{IsTaken, noticed, served-at, serving-
 use Rattle.gb_laws.proofs.points.Places.{ComesFrom, LivesOn, comes-after, lives-after}
 use Rattle.gb_laws.proofs.points.LowTypes.{AreLow, module-low}
 use Rattle.gb_laws.proofs.points.PointParts.{IsNoticed, IsServed, Untouched}
-use Rattle.gb_laws.proofs.steps.LoaderStays.{AsksUnloaded, KeepsEach, keeps-module, module-there}
-use Rattle.gb_laws.proofs.steps.LoaderStays.{serve-asks, serve-keeps}
+use Rattle.gb_laws.proofs.steps.LoaderStays.{AsksUnloaded, KeepsEach, serve-asks, serve-keeps}
+use Rattle.gb_laws.proofs.steps.LoadersPlugged.{keeps-module, module-there}
 use Rattle.gb_laws.proofs.points.Points.{IsAfterReply, IsServing, Law, as_before, loses_route}
 use Rattle.gb_laws.proofs.points.Points.{others, replied_to, served, serves, unreplied}
 use Rattle.gb_laws.proofs.svc.Powering.{IsReady, step-powered, step-ready}

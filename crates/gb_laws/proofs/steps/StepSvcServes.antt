@@ -20,7 +20,7 @@ use Rattle.gb_invariants.proofs.Found.{none-any}
 use Rattle.gb_laws.proofs.points.PointParts.{Hand, Untouched, Unwired, Wired, Wires}
 use Rattle.gb_laws.proofs.points.Points.{IsCreated, IsLive, Law, PortsFrom, others, unwires, wires}
 use Rattle.gb_laws.proofs.svc.Powering.{IsReady, IsRouted, port-powered}
-use Rattle.gb_laws.proofs.steps.LoaderStays.{same-loaders}
+use Rattle.gb_laws.proofs.steps.LoadersPlugged.{same-loaders}
 use Rattle.gb_laws.proofs.steps.StepActions.{At, Goes, goes-nothing}
 use Rattle.gb_laws.proofs.{points.Places.ComesFrom, points.Places.LivesOn, steps.ServedOn.Comes}
 use Rattle.gb_laws.proofs.{steps.ServedOn.joining-live, steps.StepActLaws.acting}

@@ -1,6 +1,6 @@
 -- A law of points goes over the step of each event.
-use Rattle.std.proofs.Common.{List, None, Option, Some, append_assoc, arith, map, refl, subst, sym}
-use Rattle.std.proofs.Common.{[], ◌++◌, ◌∷◌, ◌≡◌}
+use Rattle.std.proofs.Common.{List, None, Option, Some, append_assoc, arith, inl, map, refl, subst}
+use Rattle.std.proofs.Common.{sym, ℕ, [], ◌++◌, ◌∷◌, ◌≡◌}
 use Rattle.gb_base.specs.declared.entry.Entry.TheVariants as entry
 use Rattle.gb_base.specs.declared.event.Event.{Event}
 use Rattle.gb_base.specs.declared.event.Event.TheVariants as event
@@ -15,10 +15,9 @@ use Rattle.gb_machine.specs.{Events.decided, Events.does, Members.Each, Refusals
 use Rattle.gb_invariants.proofs.HostChanges.{at_event}
 use Rattle.gb_laws.proofs.points.PointParts.{Untouched, Wires, resting}
 use Rattle.gb_laws.proofs.points.Points.{IsBridge, IsOfSvc, Law, frees, tells}
-use Rattle.gb_laws.proofs.steps.LoaderStays.{AreFirst, first-kind, first-raw}
-use Rattle.gb_laws.proofs.steps.StepEvents.{rests-bridges, rests-cancels, rests-copies, rests-gives}
-use Rattle.gb_laws.proofs.steps.StepEvents.{rests-holds, rests-injects, rests-sends, rests-shows}
-use Rattle.gb_laws.proofs.steps.StepEvents.{rests-stirs}
+use Rattle.gb_laws.proofs.steps.LoadersPlugged.{AreFirst, first-kind, first-raw}
+use Rattle.gb_laws.proofs.steps.StepEvents.{rests-bridges, rests-cancels, rests-injects}
+use Rattle.gb_laws.proofs.steps.StepEvents.{rests-sends, rests-shows, rests-stirs}
 use Rattle.gb_laws.proofs.{steps.StepActLaws.acting, steps.StepActions.At}
 use Rattle.gb_laws.proofs.{steps.StepActs.goes-notice, steps.StepDelivers.ends-answers}
 use Rattle.gb_laws.proofs.{steps.StepDelivers.ends-delivers, steps.StepIdles.goes-drains}
@@ -26,6 +25,17 @@ use Rattle.gb_laws.proofs.{steps.StepLoads.rests-loads, steps.StepPlugs.rests-bo
 use Rattle.gb_laws.proofs.{steps.StepPlugs.rests-plugs, steps.StepSvcServes.Ends}
 use Rattle.gb_laws.proofs.{steps.StepSvcServes.ends-going, steps.Ticking.ends-pulls}
 use Rattle.gb_laws.proofs.{steps.Ticking.rests-ticks}
+use Rattle.gb_base.specs.declared.name.Name.{Name}
+use Rattle.gb_formats.specs.{Images.image_of}
+use Rattle.gb_machine.proofs.{Conditions.free as unmet, Options.none-of}
+use Rattle.gb_machine.specs.Actions.{change, given, on_host}
+use Rattle.gb_machine.specs.{Bus.Place, Events.holds, Events.with_hold, Holding.marked}
+use Rattle.gb_machine.specs.{Host.with_given, LineActions.copies, Names.bound, Names.named}
+use Rattle.gb_machine.specs.{Refusals.module_place, State.State}
+use Rattle.gb_laws.proofs.{points.Places.place-marked, svc.StayPlugged.same-plugs}
+use Rattle.gb_laws.proofs.points.Points.{as_before, binds, gives, others}
+use Rattle.gb_laws.proofs.steps.LoadersPlugged.{same-loaders}
+use Rattle.gb_laws.proofs.steps.StepPlugs.{Rests, rests-nothing}
 
 -- the loaders of modules of kinds are in their first state
 kinds-first : (kinds : List Kind) → Each AreFirst (map module_of_kind kinds)
@@ -33,6 +43,45 @@ kinds-first [] = tt
 kinds-first (k ∷ ks) = (first-kind k, kinds-first ks)
 
 module _ (m : Moment) (law : Law m) where
+  -- ---- events of one single change
+
+  rests-holds : (i c : ℕ) (s : State) → Rests m law (holds i c) s
+  unfolding machine_opened
+  rests-holds i c s = by (module_place i c s) refl
+    where
+      by : (o : Option Place) → module_place i c s ≡ o
+          → Rests m law (given o (λ p. change (with_hold p.connection.number))) s
+      by None e = rests-nothing m law s
+      by (Some p) e = λ told at. law.kept _ (others s.booted (marked p.connection.number s.holds)
+          s.ports s.modules (
+            inl (
+              same-plugs s,
+              as_before refl,
+              record { hand = refl; pending = refl; asked = refl },
+              place-marked i c s p e,
+            ),
+            same-loaders s.modules,
+          )) at
+
+  -- an image is given
+  rests-gives : (tag bytes : List ℕ) → m.event ≡ event.Image tag bytes
+      → refusal m.before (event.Image tag bytes) ≡ None
+      → Rests m law (on_host (with_given tag bytes)) m.before
+  unfolding machine_opened
+  rests-gives tag bytes is allowed told at =
+      law.kept _ (gives tag bytes (refl, is) (none-of (image_of tag m.before.host.images)
+      (unmet m.before (event.Image tag bytes) allowed).0)) at
+
+  rests-copies : (x y : Name) (s : State) → Rests m law (copies x y) s
+  unfolding machine_opened
+  rests-copies x y s = by (named x s.names) refl
+    where
+      by : (o : Option ℕ) → named x s.names ≡ o → Rests m law (given o (λ n. change (bound y n))) s
+      by None e = rests-nothing m law s
+      by (Some n) e = λ told at. law.kept _ (binds x y n e) at
+
+  -- ---- all events
+
   -- what an event does that isn't refused
   ends-does : (e : Event) → m.event ≡ e → IsMoment e → refusal m.before e ≡ None
       → Ends m law None (does e) m.before
@@ -72,19 +121,19 @@ module _ (m : Moment) (law : Law m) where
   ends-does (event.Deliver at) is one free = ends-delivers m law at is
   ends-does (event.Settle most) is one free = absurd one
   ends-does (event.Hold i c) is one free =
-      ends-going m law (does (event.Hold i c)) (rests-holds m law i c m.before)
+      ends-going m law (does (event.Hold i c)) (rests-holds i c m.before)
   ends-does (event.Answer i c place) is one free = ends-answers m law i c place is
   ends-does (event.Cancel name) is one free =
       ends-going m law (does (event.Cancel name)) (rests-cancels m law name is free)
   ends-does (event.Copy x y) is one free =
-      ends-going m law (does (event.Copy x y)) (rests-copies m law x y m.before)
+      ends-going m law (does (event.Copy x y)) (rests-copies x y m.before)
   ends-does (event.Forget name) is one free = λ told at. (Untouched, law.kept _ (frees name) at)
   ends-does (event.Tick millis) is one free =
       ends-going m law (does (event.Tick millis)) (rests-ticks m law millis is)
   ends-does (event.Inject i c bytes) is one free = ends-going m law
       (does (event.Inject i c bytes)) (rests-injects m law i c bytes m.before)
   ends-does (event.Image tag bytes) is one free =
-      ends-going m law (does (event.Image tag bytes)) (rests-gives m law tag bytes is free)
+      ends-going m law (does (event.Image tag bytes)) (rests-gives tag bytes is free)
   ends-does (event.Load i c tag) is one free =
       ends-going m law (does (event.Load i c tag)) (rests-loads m law i c tag is free)
   ends-does event.Show is one free =

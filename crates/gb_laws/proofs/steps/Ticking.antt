@@ -38,7 +38,7 @@ use Rattle.gb_laws.proofs.points.Overdue.{IsOverdue, overdue-first, overdue-othe
 use Rattle.gb_laws.proofs.points.PointParts.{Untouched, Unwired, Wired, Wires}
 use Rattle.gb_laws.proofs.points.Points.{IsLive, IsOfSvc, Law, by_svc, others, passes, recalls}
 use Rattle.gb_laws.proofs.points.Points.{unloads, unwires as unwiring}
-use Rattle.gb_laws.proofs.steps.LoaderStays.{keeps-unplugged, none-unplugged}
+use Rattle.gb_laws.proofs.steps.LoadersPlugged.{keeps-unplugged, none-unplugged}
 use Rattle.gb_laws.proofs.steps.StepActions.{At, goes-far_asks}
 use Rattle.gb_laws.proofs.steps.StepPlugs.{Rests, rests-nothing, rests-▸}
 use Rattle.gb_laws.proofs.{steps.StepActLaws.acting, steps.StepEvents.rests-gives_up}

@@ -4,7 +4,7 @@ use Rattle.std.proofs.Common.{◌∙◌, ◌≡◌, ◌⊎◌}
 use Rattle.gb_base.specs.declared.end.End.TheVariants as end
 use Rattle.gb_base.specs.declared.entry.ConnState.{ConnState}
 use Rattle.gb_base.specs.declared.entry.ConnState.TheVariants as state
-use Rattle.gb_base.specs.declared.peers.Link.{Link}
+use Rattle.gb_base.specs.declared.interface.Link.{Link}
 use Rattle.gb_machine.proofs.Conditions.{AreUnmet}
 use Rattle.gb_machine.specs.Bus.{Bus, Connection, Place, end_of, place_of}
 use Rattle.gb_machine.specs.HostRefusals.{is_ending, is_failed, is_unopened, link_conditions}

@@ -7,7 +7,7 @@ use Rattle.gb_base.specs.declared.end.End.TheVariants as end
 use Rattle.gb_base.specs.declared.end.Side.TheVariants as side
 use Rattle.gb_base.specs.declared.entry.Entry.{Entry}
 use Rattle.gb_base.specs.declared.entry.Entry.TheVariants as entry
-use Rattle.gb_base.specs.declared.fault.RawFault.{RawFault}
+use Rattle.gb_base.specs.declared.reasons.RawFault.{RawFault}
 use Rattle.gb_formats.specs.Message.{Message, message_size, response, spelling}
 use Rattle.gb_formats.specs.Wire.{raw_message}
 use Rattle.gb_machine.specs.Bus.{Ask, Bus, Connection, Item, Raw, RawReply, Reply, Request}
@@ -18,7 +18,7 @@ use Rattle.gb_machine.specs.LawsHotPlug.{IsAskedOn, IsOwnItem, IsRepliedOn, told
 use Rattle.gb_machine.specs.{Members.IsIn, Serving.Answer}
 use Rattle.gb_invariants.proofs.{Apart.SameEnds, Awaiting.same-some, BusChanges.KeepsRequests}
 use Rattle.gb_invariants.proofs.{Lists.in-behind}
-use Rattle.gb_laws.proofs.{taking.Owning.at-ends, points.Since.since-opened}
+use Rattle.gb_laws.proofs.{taking.Owning.at-ends, points.ToldSince.since-opened}
 
 -- the reply to a request that was made on the connection
 asked-reply : (told : List Entry) (b after : Bus) (x c d : Connection) (at : Side) (n : ℕ)

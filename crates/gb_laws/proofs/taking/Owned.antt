@@ -30,13 +30,13 @@ use Rattle.gb_laws.proofs.taking.Owning.{own-new, own-still, own-with}
 use Rattle.gb_laws.proofs.points.Places.{IsPlace, module-far, place-is}
 use Rattle.gb_laws.proofs.points.PointParts.{Basis, Hand, Point, asked_told, loose, loose_hand}
 use Rattle.gb_laws.proofs.points.PointParts.{loose_held}
-use Rattle.gb_laws.proofs.points.Points.{Change, acts_asked, acts_failed, acts_left, acts_opened}
+use Rattle.gb_laws.proofs.points.Points.{Change, acts_asked, acts_failed, acts_left, acts_made}
 use Rattle.gb_laws.proofs.points.Points.{acts_shut, acts_told, answers, asks, changed, drops}
 use Rattle.gb_laws.proofs.points.Points.{forgets}
 use Rattle.gb_laws.proofs.points.Points.{gives_up, holds, injects, names, replies, takes}
 use Rattle.gb_laws.proofs.points.Points.{takes_held}
 use Rattle.gb_laws.proofs.points.Points.{tells, unwires, wires}
-use Rattle.gb_laws.proofs.points.Since.{IsOpened, opened-more, opening-opened}
+use Rattle.gb_laws.proofs.points.ToldSince.{IsOpened, opened-more, opening-opened}
 use Rattle.gb_laws.proofs.{points.Awaited.awaited-rest, basis.BasisParts.loose_of}
 use Rattle.gb_laws.proofs.{basis.BasisParts.taken-is}
 use Rattle.gb_laws.proofs.{taking.OwnReplies.own-reply}
@@ -259,7 +259,7 @@ own-kept m a (acts_left k rest free untouched is) basis h =
       self = record { number = refl; ap = refl; peer = refl };
       items = λ s x i. inl i;
     }) (λ l i. inl i) h
-own-kept m a (acts_opened w q rest free is) basis h = record {
+own-kept m a (acts_made w q rest free is) basis h = record {
   waiting = λ c s x live i. ⊎_elim
       (λ old. own-more a.told (opening ∷ []) a.state.bus after c s x (ends-same c)
       (λ k r made. made) (h.waiting c s x old i))

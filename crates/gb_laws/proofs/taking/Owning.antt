@@ -16,7 +16,7 @@ use Rattle.gb_invariants.proofs.{Apart.SameEnds, BusChanges.KeepsRequests, Lists
 use Rattle.gb_invariants.proofs.{Lists.in-front, Numbers.in-changed, Selves.SameSelf}
 use Rattle.gb_invariants.specs.Facts.{Loose, NumbersRise}
 use Rattle.gb_laws.proofs.points.PointParts.{Point, asked_told, loose}
-use Rattle.gb_laws.proofs.points.Since.{IsOpened, opened-more, since-more}
+use Rattle.gb_laws.proofs.points.ToldSince.{IsOpened, opened-more, since-more}
 
 -- items were told, and connections to modules were opened
 pub record OwnTold (a : Point) : Type 0 where

@@ -22,8 +22,8 @@ use Rattle.gb_machine.specs.Actions.{Action, change, each, given, nothing, on_ho
 use Rattle.gb_machine.specs.Asking.{asked, asks, asks_with}
 use Rattle.gb_machine.specs.Bus.{Bus, Connection, Item, Place, Request, connection_of, next_number}
 use Rattle.gb_machine.specs.Bus.{request_of}
-use Rattle.gb_machine.specs.HostActs.{acts, asked_with, fails, host_asks, host_draft, host_opens}
-use Rattle.gb_machine.specs.HostActs.{host_follows, idles, idles_behind, notices, opened_with}
+use Rattle.gb_machine.specs.HostActs.{acts, asked_with, fails, host_asks, host_draft, host_makes}
+use Rattle.gb_machine.specs.HostActs.{host_follows, idles, idles_behind, notices, made_with}
 use Rattle.gb_machine.specs.HostActs.{with_awaited, with_made}
 use Rattle.gb_machine.specs.HostActs as acting
 use Rattle.gb_machine.specs.Loading.{asks_at, asks_next, goes_on, load_ended, load_follows, load_of}
@@ -231,11 +231,11 @@ module _ (aim : Taking) where
           (follows-change (with_awaited q.purpose (next_number s.bus))
           (asks (host_draft q s.now) s).state (awaited-rest q.purpose (next_number s.bus)).bus)
 
-  follows-host_opens : (w : Making) (q : Asking) (s : State) → Follows (host_opens w q) s
+  follows-host_makes : (w : Making) (q : Asking) (s : State) → Follows (host_makes w q) s
   unfolding machine_opened
-  follows-host_opens w q s = by (next_label q.on side.Ap s.bus)
+  follows-host_makes w q s = by (next_label q.on side.Ap s.bus)
     where
-      by : (o : Option ℕ) → Follows (opened_with o w q) s
+      by : (o : Option ℕ) → Follows (made_with o w q) s
       by None = follows-fails q s
       by (Some label) =
           follows-▸ (change (with_made w) ▸ tell (entry.Connection (next_connection s.bus) w.ap
@@ -249,7 +249,7 @@ module _ (aim : Taking) where
       → Follows (acts x) s
   unfolding machine_opened
   follows-act (Act.Ask q) s none stays = follows-host_asks q s
-  follows-act (Act.Open w q) s none stays = follows-host_opens w q s
+  follows-act (Act.Make w q) s none stays = follows-host_makes w q s
   follows-act (Act.Shut j) s none stays = (
     tells-follow _ (ends-follow (open_on j side.Ap s.bus)),
     λ h. left-by (BusChange.shuts j) s.bus tt (λ e. none-some e) h,

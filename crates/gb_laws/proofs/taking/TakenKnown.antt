@@ -5,7 +5,7 @@ use Rattle.std.specs.Prelude.{option_map, ◌==◌}
 use Rattle.gb_base.specs.declared.end.End.{End}
 use Rattle.gb_base.specs.declared.host_event.HostEvent.TheVariants as host_event
 use Rattle.gb_base.specs.declared.outcome.Outcome.{Outcome}
-use Rattle.gb_base.specs.declared.peers.Link.{Link}
+use Rattle.gb_base.specs.declared.interface.Link.{Link}
 use Rattle.gb_base.specs.declared.end.End.TheVariants as end
 use Rattle.gb_machine.proofs.{Conditions.waits}
 use Rattle.gb_machine.specs.Bus.{Ask, Connection, Item, Place, Reply, Request, other_side, place_of}

@@ -4,7 +4,7 @@ use Rattle.std.proofs.Common.{List, subst, sym, ℕ, [], ◌∷◌, ◌≡◌}
 use Rattle.std.specs.Prelude.{◌==◌}
 use Rattle.gb_base.specs.declared.host_event.HostEvent.TheVariants as host_event
 use Rattle.gb_base.specs.declared.host_event.HostEvent.{HostEvent}
-use Rattle.gb_base.specs.declared.peers.Link.{Link}
+use Rattle.gb_base.specs.declared.interface.Link.{Link}
 use Rattle.gb_machine.proofs.{Opened.machine_opened}
 use Rattle.gb_machine.specs.Actions.{Told, each}
 use Rattle.gb_machine.specs.Host.{Host, interfaces_of}

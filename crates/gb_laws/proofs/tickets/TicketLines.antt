@@ -9,15 +9,15 @@ use Rattle.gb_base.specs.declared.end.Side.TheVariants as side
 use Rattle.gb_base.specs.declared.event.Event.{Event}
 use Rattle.gb_base.specs.declared.event.Event.TheVariants as event
 use Rattle.gb_base.specs.declared.name.Name.{Name}
-use Rattle.gb_base.specs.declared.peers.Link.{Link}
+use Rattle.gb_base.specs.declared.interface.Link.{Link}
 use Rattle.gb_base.specs.declared.refusal.Refusal.TheVariants as why
 use Rattle.gb_formats.specs.Bridges.{ask_request, bridge_answer}
 use Rattle.gb_formats.specs.Grammar.{default_timeout}
 use Rattle.gb_formats.specs.ValidEvents.{IsFar}
 use Rattle.gb_invariants.proofs.Awaiting.{not-both, sent-new, unended}
 use Rattle.gb_invariants.specs.Facts.{OutcomesFit}
-use Rattle.gb_laws.proofs.credits.CreditsLines.{answered-by}
-use Rattle.gb_laws.proofs.runs.Reached.{reached-told}
+use Rattle.gb_machine.proofs.BridgeAnswers.{answered-by}
+use Rattle.gb_laws.proofs.runs.OfStates.{reached-told}
 use Rattle.gb_laws.specs.Tickets.{Asks, IsTwoway, LinesAsk, asked_in}
 use Rattle.gb_machine.proofs.Conditions.{AreUnmet, free}
 use Rattle.gb_machine.proofs.Opened.{machine_opened}

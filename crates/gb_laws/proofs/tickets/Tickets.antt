@@ -19,8 +19,8 @@ use Rattle.gb_laws.proofs.basis.Basics.{basis-first, basis-kept, none-made, rest
 use Rattle.gb_laws.proofs.points.PointParts.{Basis, IsGivenUpFor, Point, resting}
 use Rattle.gb_laws.proofs.points.Points.{Change, Law, acts_asked, acts_shut, answers, asks, changed}
 use Rattle.gb_laws.proofs.points.Points.{gives_up, names, unwires}
-use Rattle.gb_laws.proofs.runs.Reached.{reached-delivery, reached-has, reached-told}
-use Rattle.gb_laws.proofs.runs.Reached.{reached-waiting}
+use Rattle.gb_laws.proofs.runs.OfStates.{reached-has, reached-told}
+use Rattle.gb_laws.proofs.runs.Reached.{reached-delivery, reached-waiting}
 use Rattle.gb_laws.proofs.runs.Runs.{HoldsByMoments, throughout, weaker}
 use Rattle.gb_laws.proofs.steps.Steps.{over-step}
 use Rattle.gb_laws.specs.Tickets.{TwowayIsNeverSent, TwowayStays}

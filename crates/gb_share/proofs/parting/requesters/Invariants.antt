@@ -5,6 +5,6 @@ use Rattle.gb_share.proofs.parting.requesters.Given as goal
 
 abbrev pub invariant-loop-who : goal.invariant-loop-who
 invariant-loop-who l = record {
-  first : AreFirst l.asked l.all.items;
+  first : AreFirst l.fn.asked l.all.items;
   long : length l.all.items ≡ l.who;
 }

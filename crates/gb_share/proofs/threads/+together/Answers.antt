@@ -50,8 +50,7 @@ run_all-returns-clause-ran g t c =
     subst (λ v. Runs c.in-Some.last.now c.both-ran.new.last v (knows c.both-ran.new.own))
     {y = goes parts (knows c.args.hand.now)} c.split-own.ensures.goes
     c.in_ok-ran.ensures.last in
-    on_ok c.join-joined.result
-    (both_have (knows c.args.hand.now) (knows c.both-ran.new.hand) (knows c.both-ran.new.own)
+    both_have (knows c.args.hand.now) (knows c.both-ran.new.hand) (knows c.both-ran.new.own)
     (knows c.join-joined.new.self) c.parts.result c.both-ran.new.others c.in-Some.last.now
     c.both-ran.new.last c.requires.none c.both-ran.new.hand.within c.both-ran.new.own.within
     had ran
@@ -62,4 +61,4 @@ run_all-returns-clause-ran g t c =
     c.both-ran.ensures.who
     (numbered_same c.in-Some.others.now c.both-ran.new.others c.both-ran.ensures.same
     (λ n x at. c.requires.numbered n x (front_get _ _ _ c.in-Some.ensures.cases.0 n x at)))
-    c.join-joined.ensures.joined)
+    c.join-joined.ensures.joined

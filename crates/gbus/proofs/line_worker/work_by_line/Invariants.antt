@@ -5,8 +5,8 @@ use Rattle.gbus.specs.Program.{LineJob}
 use Rattle.gbus.specs.Stages.{Stage}
 use Rattle.gbus.proofs.line_worker.work_by_line.Given as goal
 
-abbrev pub invariant-loop-fault : goal.invariant-loop-fault
-invariant-loop-fault g l = record {
+abbrev pub invariant-loop-ended : goal.invariant-loop-ended
+invariant-loop-ended g l = record {
   stage : (j : LineJob) → Stage l.initial.worker j (g.S.Source.left l.initial.source)
       (g.S.Source.left l.initial.source) (g.K.Sink.taken l.initial.sink)
       (g.K.Sink.taken l.initial.sink)
@@ -16,5 +16,5 @@ invariant-loop-fault g l = record {
   writes : g.K.Sink.faults l.initial.sink ≤ g.K.Sink.faults l.sink;
 }
 
-abbrev pub decreases-loop-fault : goal.decreases-loop-fault
-decreases-loop-fault g l = 1048577 - number_of l.worker.reader
+abbrev pub decreases-loop-ended : goal.decreases-loop-ended
+decreases-loop-ended g l = 1048577 - number_of l.worker.reader

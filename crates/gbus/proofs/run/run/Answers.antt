@@ -158,14 +158,16 @@ returns-in-ByLine-clause-traced g c = of_run _
 
 pub returns-in-ByLine-clause-answered : goal.returns-in-ByLine-clause-answered
 returns-in-ByLine-clause-answered g c =
-    by-line-answered _ (line_job_seen c.in-ByLine.job) _ _ _ _ _
+    rw c.status_of.ensures
+    (by-line-answered _ (line_job_seen c.in-ByLine.job) _ _ _ _ _
     (sym (ap (λ j. Some (job_seen j)) c.in-ByLine.is)
     ∙ sym (ap (option_map job_seen) c.in-Some.is) ∙ c.job_of.ensures.job)
-    c.work_by_line.ensures.ends
+    c.work_by_line.ensures.ends)
 
 pub returns-in-ByLine-clause-at_end : goal.returns-in-ByLine-clause-at_end
 returns-in-ByLine-clause-at_end g c =
-    λ r e. lines-end (line_job_seen c.in-ByLine.job) _ _ _ _ _ c.work_by_line.ensures.ends e
+    λ r e. lines-end (line_job_seen c.in-ByLine.job) _ _ _ _ _ c.work_by_line.ensures.ends
+    (sym c.status_of.ensures ∙ e)
 
 pub returns-in-ByLine-clause-kept : goal.returns-in-ByLine-clause-kept
 returns-in-ByLine-clause-kept g c =
@@ -182,7 +184,8 @@ returns-in-ByLine-clause-prefix g c =
 
 pub returns-in-ByLine-clause-read : goal.returns-in-ByLine-clause-read
 returns-in-ByLine-clause-read g c =
-    lines-read _ _ _ _ _ c.work_by_line.ensures.faults
+    rw c.status_of.ensures
+    (lines-read _ _ _ _ _ c.work_by_line.ensures.faults)
 
 pub returns-in-ByLine-clause-unread : goal.returns-in-ByLine-clause-unread
 returns-in-ByLine-clause-unread g c =
@@ -192,41 +195,46 @@ returns-in-ByLine-clause-unread g c =
 
 pub returns-in-ByLine-clause-write : goal.returns-in-ByLine-clause-write
 returns-in-ByLine-clause-write g c =
-    lines-write _ _ _ _ _ c.work_by_line.ensures.faults
+    rw c.status_of.ensures
+    (lines-write _ _ _ _ _ c.work_by_line.ensures.faults)
 
 pub returns-in-ByLine-clause-cut_off : goal.returns-in-ByLine-clause-cut_off
 returns-in-ByLine-clause-cut_off g c =
-    by-line-cut _ (line_job_seen c.in-ByLine.job) _ _ _ _ _
+    rw c.status_of.ensures
+    (by-line-cut _ (line_job_seen c.in-ByLine.job) _ _ _ _ _
     (sym (ap (λ j. Some (job_seen j)) c.in-ByLine.is)
     ∙ sym (ap (option_map job_seen) c.in-Some.is) ∙ c.job_of.ensures.job)
-    c.work_by_line.ensures.ends
+    c.work_by_line.ensures.ends)
 
 pub returns-in-ByLine-clause-stops_short : goal.returns-in-ByLine-clause-stops_short
 returns-in-ByLine-clause-stops_short g c =
-    by-line-short _ (line_job_seen c.in-ByLine.job) _ _ _ _ _
+    rw c.status_of.ensures
+    (by-line-short _ (line_job_seen c.in-ByLine.job) _ _ _ _ _
     (sym (ap (λ j. Some (job_seen j)) c.in-ByLine.is)
     ∙ sym (ap (option_map job_seen) c.in-Some.is) ∙ c.job_of.ensures.job)
-    c.work_by_line.ensures.ends
+    c.work_by_line.ensures.ends)
 
 pub returns-in-ByLine-clause-refused_at : goal.returns-in-ByLine-clause-refused_at
 returns-in-ByLine-clause-refused_at g c =
-    by-line-refused _ (line_job_seen c.in-ByLine.job) _ _ _ _ _
+    rw c.status_of.ensures
+    (by-line-refused _ (line_job_seen c.in-ByLine.job) _ _ _ _ _
     (sym (ap (λ j. Some (job_seen j)) c.in-ByLine.is)
     ∙ sym (ap (option_map job_seen) c.in-Some.is) ∙ c.job_of.ensures.job)
-    c.work_by_line.ensures.ends
+    c.work_by_line.ensures.ends)
 
 pub returns-in-ByLine-clause-complete : goal.returns-in-ByLine-clause-complete
 returns-in-ByLine-clause-complete g c =
-    by-line-complete _ (line_job_seen c.in-ByLine.job) _ _ _ _ _ _ _ _ _
+    rw c.status_of.ensures
+    (by-line-complete _ (line_job_seen c.in-ByLine.job) _ _ _ _ _ _ _ _ _
     (sym (ap (λ j. Some (job_seen j)) c.in-ByLine.is)
     ∙ sym (ap (option_map job_seen) c.in-Some.is) ∙ c.job_of.ensures.job)
     c.work_by_line.ensures.ends
-    c.work_by_line.ensures.faults
+    c.work_by_line.ensures.faults)
 
 pub returns-in-ByLine-clause-usage : goal.returns-in-ByLine-clause-usage
 returns-in-ByLine-clause-usage g c = (
   (λ e. absurd (lines-usage (line_job_seen c.in-ByLine.job) _ _ _ _ _
-      c.work_by_line.ensures.ends e)),
+      c.work_by_line.ensures.ends (sym c.status_of.ensures ∙ e))),
   (λ none. absurd (some-job _ (ByLine (line_job_seen c.in-ByLine.job))
       (sym (ap (λ j. Some (job_seen j)) c.in-ByLine.is)
       ∙ sym (ap (option_map job_seen) c.in-Some.is) ∙ c.job_of.ensures.job) none)),
@@ -234,7 +242,23 @@ returns-in-ByLine-clause-usage g c = (
 
 pub returns-in-ByLine-clause-untouched : goal.returns-in-ByLine-clause-untouched
 returns-in-ByLine-clause-untouched g c = λ e.
-    absurd (lines-usage (line_job_seen c.in-ByLine.job) _ _ _ _ _ c.work_by_line.ensures.ends e)
+    absurd (lines-usage (line_job_seen c.in-ByLine.job) _ _ _ _ _ c.work_by_line.ensures.ends
+    (sym c.status_of.ensures ∙ e))
 
 pub returns-in_default-clause-limit : goal.returns-in_default-clause-limit
 returns-in_default-clause-limit g c = nothing-read (g.S.Source.left c.args.source.now)
+
+pub returns-in-Err-Spent-clause-traced : goal.returns-in-Err-Spent-clause-traced
+returns-in-Err-Spent-clause-traced g c = of_run _
+
+pub returns-in-Err-Spent-clause-headline : goal.returns-in-Err-Spent-clause-headline
+returns-in-Err-Spent-clause-headline g c = keeps_headline _
+
+pub returns-in-Err-Spent-clause-kept : goal.returns-in-Err-Spent-clause-kept
+returns-in-Err-Spent-clause-kept g c = λ r.
+    c.answer_for.ensures.kept
+    (ap reads (sym (ap (λ j. Some (job_seen j)) c.in-Task.is)
+    ∙ sym (ap (option_map job_seen) c.in-Some.is) ∙ c.job_of.ensures.job) ∙ r)
+
+pub returns-in-Err-Spent-clause-prefix : goal.returns-in-Err-Spent-clause-prefix
+returns-in-Err-Spent-clause-prefix g c = unwritten _ _ _

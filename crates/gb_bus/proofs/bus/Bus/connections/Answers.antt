@@ -1,6 +1,6 @@
 -- What is told of the connections.
 use Rattle.std.proofs.Common.{◌∙◌}
-use Rattle.gb_bus.proofs.Tellings.{known-is}
+use Rattle.gb_bus.proofs.Overviews.{known-is}
 use Rattle.gb_bus.proofs.bus.Bus.connections.Goals as goal
 
 pub returns : goal.returns

@@ -1,6 +1,6 @@
 -- The ends of a connection.
 use Rattle.std.proofs.Common.{◌∙◌}
-use Rattle.gb_bus.proofs.Looks.{ends-is}
+use Rattle.gb_bus.proofs.LookedUp.{ends-is}
 use Rattle.gb_bus.proofs.bus.Bus.ends.Goals as goal
 
 pub returns : goal.returns

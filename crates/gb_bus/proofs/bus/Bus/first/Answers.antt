@@ -1,6 +1,6 @@
 -- The first end at which something waits.
 use Rattle.std.proofs.Common.{◌∙◌}
-use Rattle.gb_bus.proofs.Looks.{firsts}
+use Rattle.gb_bus.proofs.LookedUp.{firsts}
 use Rattle.gb_bus.proofs.bus.Bus.first.Goals as goal
 
 pub returns : goal.returns

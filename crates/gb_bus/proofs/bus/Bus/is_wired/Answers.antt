@@ -1,7 +1,7 @@
 -- A connection is wired where the machine's is.
 use Rattle.std.proofs.Common.{ap, sym, ◌∙◌}
 use Rattle.std.specs.List.{find}
-use Rattle.gb_bus.proofs.Looks.{found-none, found-wired, wired-is}
+use Rattle.gb_bus.proofs.LookedUp.{found-none, found-wired, wired-is}
 use Rattle.gb_bus.specs.Parts.{is_wired, numbered}
 use Rattle.gb_bus.proofs.bus.Bus.is_wired.Goals as goal
 

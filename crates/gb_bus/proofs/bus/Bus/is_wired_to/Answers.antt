@@ -1,6 +1,6 @@
 -- A connection is wired to an interface where the machine's is.
 use Rattle.std.proofs.Common.{◌∙◌}
-use Rattle.gb_bus.proofs.Looks.{wired-to-is}
+use Rattle.gb_bus.proofs.LookedUp.{wired-to-is}
 use Rattle.gb_bus.proofs.bus.Bus.is_wired_to.Goals as goal
 
 pub returns : goal.returns

@@ -1,6 +1,6 @@
 -- The connection that joins two ends.
 use Rattle.std.proofs.Common.{◌∙◌}
-use Rattle.gb_bus.proofs.Looks.{lives}
+use Rattle.gb_bus.proofs.LookedUp.{lives}
 use Rattle.gb_bus.proofs.bus.Bus.live.Goals as goal
 
 pub returns : goal.returns

@@ -1,7 +1,7 @@
 -- Which connection an end names.
 use Rattle.std.proofs.Common.{ap, sym, ◌∙◌}
 use Rattle.std.specs.Prelude.{option_map}
-use Rattle.gb_bus.proofs.Looks.{named-is}
+use Rattle.gb_bus.proofs.LookedUp.{named-is}
 use Rattle.gb_bus.proofs.bus.Bus.named.Goals as goal
 
 pub returns-in_err-connection : goal.returns-in_err-connection

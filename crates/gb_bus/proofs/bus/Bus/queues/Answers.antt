@@ -1,6 +1,6 @@
 -- The ends at which something waits.
 use Rattle.std.proofs.Common.{◌∙◌}
-use Rattle.gb_bus.proofs.Tellings.{waiting-is}
+use Rattle.gb_bus.proofs.Overviews.{waiting-is}
 use Rattle.gb_bus.proofs.bus.Bus.queues.Goals as goal
 
 pub returns : goal.returns

@@ -1,6 +1,6 @@
 -- Whether an identifier is left.
 use Rattle.std.proofs.Common.{ap, is_none, ◌∙◌}
-use Rattle.gb_bus.proofs.Looks.{next-is}
+use Rattle.gb_bus.proofs.LookedUp.{next-is}
 use Rattle.gb_bus.proofs.bus.Bus.spent.Goals as goal
 
 pub returns : goal.returns

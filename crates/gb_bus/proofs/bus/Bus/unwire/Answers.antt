@@ -1,19 +1,27 @@
 -- The connection isn't wired any more in the machine's state, and its far side ended.
 use Rattle.std.proofs.Common.{ap, subst}
+use Rattle.gb_base.specs.declared.end.Side.TheVariants as side
+use Rattle.gb_bus.proofs.Quiet.{none-listed}
 use Rattle.gb_bus.proofs.Wires.{unwires}
 use Rattle.gb_bus.specs.Slots.{Closes}
 use Rattle.gb_bus.proofs.bus.Bus.unwire.Goals as goal
 
-pub returns : goal.returns
-returns c = record {
-  step = λ around b s. unwires around c.args.self.now _ b c.args.k c.args.ended.now
-      c.extend.new.self c.in_ok-unended.unended c.in_ok-late.late s
-      (ap (λ cs. record c.args.self.now { connections = cs; slots = c.close.new.self })
-      c.unwire.ensures) (c.in_ok-unended.ensures around b s) (c.in_ok-late.ensures around b s)
-      (subst (λ ns. Closes ns c.in_ok-late.late c.args.self.now.slots c.close.new.self)
-      c.items-2.ensures
-      (subst (λ ns. Closes c.items-2.result.now ns c.args.self.now.slots c.close.new.self)
-      c.items-3.ensures c.close.ensures))
-      (cc (c.in_ok-extend.ensures.ok, c.items.ensures));
-  unchanged = tt;
-}
+pub returns-in_err-note-clause-few : goal.returns-in_err-note-clause-few
+returns-in_err-note-clause-few c = λ around b s quiet.
+    let never = c.in_err-note.ensures.few
+    (none-listed around c.args.self.now b c.args.k side.Far c.in_ok-unended.unended s
+    (c.in_ok-unended.ensures.lists around b s) quiet) in
+    absurd (cc never)
+
+pub returns-clause-step : goal.returns-clause-step
+returns-clause-step c = λ around b s.
+    unwires around c.args.self.now _ b c.args.k c.args.ended.now c.note.new.ended
+    c.in_ok-unended.unended c.in_ok-late.late s
+    (ap (λ cs. record c.args.self.now { connections = cs; slots = c.close.new.self })
+    c.unwire.ensures) (c.in_ok-unended.ensures.lists around b s)
+    (c.in_ok-late.ensures.lists around b s)
+    (subst (λ ns. Closes ns c.in_ok-late.late c.args.self.now.slots c.close.new.self)
+    c.items.ensures
+    (subst (λ ns. Closes c.items.result.now ns c.args.self.now.slots c.close.new.self)
+    c.items-2.ensures c.close.ensures))
+    c.in_ok-note.ensures.noted

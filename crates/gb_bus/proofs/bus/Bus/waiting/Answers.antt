@@ -1,6 +1,6 @@
 -- How many messages wait.
 use Rattle.std.proofs.Common.{sym, ◌∙◌}
-use Rattle.gb_bus.proofs.Looks.{counts, waits-nowhere}
+use Rattle.gb_bus.proofs.LookedUp.{counts, waits-nowhere}
 use Rattle.gb_bus.proofs.bus.Bus.waiting.Goals as goal
 
 pub returns-in_err-connection : goal.returns-in_err-connection

@@ -1,6 +1,6 @@
 -- The connections that are wired to an interface.
 use Rattle.std.proofs.Common.{◌∙◌}
-use Rattle.gb_bus.proofs.Looks.{wired_numbers-is}
+use Rattle.gb_bus.proofs.LookedUp.{wired_numbers-is}
 use Rattle.gb_bus.proofs.bus.Bus.wired_to.Goals as goal
 
 pub returns : goal.returns

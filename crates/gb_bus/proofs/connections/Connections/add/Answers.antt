@@ -1,15 +1,27 @@
 -- The connection stands behind all others, and both its ends have its number.
 use Rattle.std.proofs.Common.{ap, subst, sym, ◌∙◌}
-use Rattle.std.specs.Prelude.{nat_eq}
-use Rattle.indexmap.specs.IndexMap.{get}
 use Rattle.gb_base.specs.declared.end.End.TheVariants as end
+use Rattle.gb_bus.proofs.EndsTaken.{are-free}
 use Rattle.gb_bus.proofs.Keeping.{kept-same}
-use Rattle.gb_bus.proofs.KeepingLive.{gets-loses, kept-added, kept-numbers, none-there}
+use Rattle.gb_bus.proofs.KeepingLive.{gets-loses, kept-added, kept-numbers}
 use Rattle.gb_bus.proofs.SeeingLive.{adds}
 use Rattle.gb_bus.specs.Connection.{Connection}
+use Rattle.gb_bus.specs.Ends.{is_far}
 use Rattle.gb_bus.specs.Index.{GetsNumber}
-use Rattle.gb_machine.specs.Bus.{same_end}
+use Rattle.gb_bus.specs.Seen.{all_seen}
 use Rattle.gb_bus.proofs.connections.Connections.add.Goals as goal
+
+pub set-requires-clause-near : goal.set-requires-clause-near
+set-requires-clause-near c =
+    (are-free c.self.inside.live c.self.inside.ends c.self.inside.queues c.args.self.now
+    c.args.number c.args.ap c.args.peer c.self.invariant c.self.view_is c.requires.far
+    c.requires.free).near
+
+pub set-requires-clause-far : goal.set-requires-clause-far
+set-requires-clause-far c =
+    (are-free c.self.inside.live c.self.inside.ends c.self.inside.queues c.args.self.now
+    c.args.number c.args.ap c.args.peer c.self.invariant c.self.view_is c.requires.far
+    c.requires.free).far
 
 pub invariant_of-self : goal.invariant_of-self
 invariant_of-self c =
@@ -21,19 +33,18 @@ invariant_of-self-in-Ok c =
     let a = c.in-Ok.ensures.added in
     let near = ap (λ (x : Connection). x.ap) a.is in
     let far = ap (λ (x : Connection). x.peer) a.is in
+    let free = are-free c.self.inside.live c.self.inside.ends c.self.inside.queues c.args.self.now
+    c.args.number c.args.ap c.args.peer c.self.invariant c.self.view_is c.requires.far
+    c.requires.free in
     kept-added c.self.inside.live c.add.new.live c.self.inside.ends c.set.new.ends
-    c.self.inside.queues c.args.number a.connection
-    (none-there (get nat_eq c.self.inside.live c.args.number) c.contains_key.result
-    c.contains_key.ensures c.if-contains_key.false)
+    c.self.inside.queues c.args.number a.connection free.number
     a.has a.unique
     (subst (λ e. GetsNumber c.self.inside.ends c.set.new.ends e a.connection.peer c.args.number)
     (ap end.Ap (sym near))
     (subst
     (λ e. GetsNumber c.self.inside.ends c.set.new.ends (end.Ap c.args.ap) e c.args.number)
     (sym far) c.in_ok-set.ensures.set))
-    (ap (λ n. same_end (end.Ap n) a.connection.peer) near
-    ∙ ap (same_end (end.Ap c.args.ap)) far
-    ∙ sym c.is_same.ensures ∙ c.if-is_same.false)
+    (ap is_far far ∙ c.requires.far)
     (ap (λ (x : Connection). x.wired) a.is)
     c.self.invariant
 
@@ -46,11 +57,16 @@ invariant_of-self-in-Err c =
     c.args.number c.in_ok-set.ensures.set c.unset.ensures)
     c.self.invariant)
 
-pub returns-in-Ok : goal.returns-in-Ok
-returns-in-Ok c =
+pub returns-in-Ok-clause-added : goal.returns-in-Ok-clause-added
+returns-in-Ok-clause-added c =
     let a = c.in-Ok.ensures.added in
     adds c.self.inside.live c.add.new.live c.self.inside.queues c.args.self.now c.args.number
     c.args.ap c.args.peer c.args.protocol a.connection c.self.view_is
-    (none-there (get nat_eq c.self.inside.live c.args.number) c.contains_key.result
-    c.contains_key.ensures c.if-contains_key.false)
+    (are-free c.self.inside.live c.self.inside.ends c.self.inside.queues c.args.self.now
+    c.args.number c.args.ap c.args.peer c.self.invariant c.self.view_is c.requires.far
+    c.requires.free).number
     a.entries a.is
+
+pub returns-in-Err-clause-unchanged : goal.returns-in-Err-clause-unchanged
+returns-in-Err-clause-unchanged c =
+    ap (all_seen c.self.inside.queues) c.in-Err.ensures.unchanged ∙ c.self.view_is

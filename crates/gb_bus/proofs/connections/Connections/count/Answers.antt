@@ -1,6 +1,6 @@
 -- How many messages wait toward a side of the connection with a number.
 use Rattle.std.proofs.Common.{None, Some, ap, length, option_map, sym, ◌∙◌}
-use Rattle.gb_bus.proofs.Seeing.{finds, queue-number}
+use Rattle.gb_bus.proofs.SeeingChanges.{finds, queue-number}
 use Rattle.gb_bus.specs.Parts.{queue_of}
 use Rattle.gb_bus.proofs.connections.Connections.count.Goals as goal
 

@@ -1,6 +1,6 @@
 -- The ends of the connection with a number.
 use Rattle.std.proofs.Common.{None, Some, ap, option_map, sym, ◌∙◌}
-use Rattle.gb_bus.proofs.Seeing.{finds}
+use Rattle.gb_bus.proofs.SeeingChanges.{finds}
 use Rattle.gb_bus.specs.Parts.{ends_in}
 use Rattle.gb_bus.proofs.connections.Connections.ends.Goals as goal
 

@@ -1,6 +1,6 @@
 -- The request is given up on the connection with the number.
 use Rattle.std.proofs.Common.{subst}
-use Rattle.gb_bus.proofs.Seeing.{keeps}
+use Rattle.gb_bus.proofs.SeeingChanges.{keeps}
 use Rattle.gb_bus.proofs.SeeingSides.{gives-up, side-ends}
 use Rattle.gb_bus.specs.Seen.{all_seen}
 use Rattle.gb_bus.specs.Sides.{GivesUpIn, GivesUpOn, GivesUpWhere}

@@ -1,6 +1,6 @@
 -- Whether an identifier is left on a side of the connection with a number.
 use Rattle.std.proofs.Common.{None, Some, ap, is_none, option_and_then, sym, ◌∙◌}
-use Rattle.gb_bus.proofs.Seeing.{finds, next-seen}
+use Rattle.gb_bus.proofs.SeeingChanges.{finds, next-seen}
 use Rattle.gb_bus.specs.Parts.{next_of}
 use Rattle.gb_bus.proofs.connections.Connections.is_spent.Goals as goal
 

@@ -1,7 +1,7 @@
 -- What isn't read of the connections doesn't matter.
 use Rattle.std.proofs.Common.{[], ◌≡◌, ap, ◌∙◌}
 use Rattle.std.specs.List.{list_any}
-use Rattle.gb_bus.proofs.Told.{any-wired}
+use Rattle.gb_bus.proofs.OverviewEntries.{any-wired}
 use Rattle.gb_bus.specs.Parts.{is_wired_to}
 use Rattle.gb_bus.specs.Seen.{all_seen}
 use Rattle.gb_bus.proofs.connections.Connections.is_wired_to.Goals as goal

@@ -1,8 +1,8 @@
 -- What isn't read of the connections doesn't matter.
 use Rattle.std.proofs.Common.{[], ◌≡◌, ◌++◌, ap, map, ◌∙◌}
-use Rattle.gb_bus.proofs.Told.{all-known}
+use Rattle.gb_bus.proofs.OverviewEntries.{all-known}
 use Rattle.gb_bus.specs.Seen.{all_seen}
-use Rattle.gb_bus.specs.Telling.{known_as}
+use Rattle.gb_bus.specs.Overview.{known_as}
 use Rattle.gb_bus.proofs.connections.Connections.known.Goals as goal
 
 pub loop-number-init : goal.loop-number-init

@@ -1,7 +1,7 @@
 -- What was told so far, and what the connections not looked at yet tell, is all.
 use Rattle.std.proofs.Common.{[], ◌≡◌, ◌++◌, map}
 use Rattle.gb_bus.specs.Seen.{all_seen}
-use Rattle.gb_bus.specs.Telling.{known_as}
+use Rattle.gb_bus.specs.Overview.{known_as}
 use Rattle.gb_bus.proofs.connections.Connections.known.Given as goal
 
 abbrev pub invariant-loop-number : goal.invariant-loop-number

@@ -1,6 +1,6 @@
 -- The answer is matched on the connection with the number.
 use Rattle.std.proofs.Common.{subst}
-use Rattle.gb_bus.proofs.Seeing.{keeps}
+use Rattle.gb_bus.proofs.SeeingChanges.{keeps}
 use Rattle.gb_bus.proofs.SeeingSides.{matches, side-ends}
 use Rattle.gb_bus.specs.Seen.{all_seen}
 use Rattle.gb_bus.specs.Sides.{MatchesAs, MatchesIn, MatchesOn}

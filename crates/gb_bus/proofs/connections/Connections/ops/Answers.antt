@@ -1,6 +1,6 @@
 -- The requests of a side of the connection with a number.
 use Rattle.std.proofs.Common.{None, Some, ap, option_copied, option_map, sym, ◌∙◌}
-use Rattle.gb_bus.proofs.Seeing.{finds, ops-seen}
+use Rattle.gb_bus.proofs.SeeingChanges.{finds, ops-seen}
 use Rattle.gb_bus.specs.Parts.{ops_of}
 use Rattle.gb_bus.proofs.connections.Connections.ops.Goals as goal
 

@@ -1,6 +1,6 @@
 -- The response is matched on the connection with the number.
 use Rattle.std.proofs.Common.{subst}
-use Rattle.gb_bus.proofs.Seeing.{keeps}
+use Rattle.gb_bus.proofs.SeeingChanges.{keeps}
 use Rattle.gb_bus.proofs.SeeingSides.{responds, side-ends}
 use Rattle.gb_bus.specs.Seen.{all_seen}
 use Rattle.gb_bus.specs.Sides.{MatchesAs, RespondsIn, RespondsOn, asked_of}

@@ -1,6 +1,6 @@
 -- The connection with the number is closed on the side of the application processor.
 use Rattle.std.proofs.Common.{ap, ◌∙◌, ◌≡◌, refl}
-use Rattle.gb_bus.proofs.Seeing.{closed-ends, keeps, marked-ends, marks}
+use Rattle.gb_bus.proofs.SeeingChanges.{closed-ends, keeps, marked-ends, marks}
 use Rattle.gb_bus.specs.Parts.{closed, numbered}
 use Rattle.gb_machine.specs.Lists.{at_first}
 use Rattle.gb_bus.proofs.connections.Connections.shut.Goals as goal

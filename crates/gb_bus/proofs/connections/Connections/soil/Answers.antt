@@ -1,6 +1,6 @@
 -- The connection with the number is unclean.
 use Rattle.std.proofs.Common.{ap, ◌∙◌, ◌≡◌, refl}
-use Rattle.gb_bus.proofs.Seeing.{keeps, marked-ends, marks, soiled-ends}
+use Rattle.gb_bus.proofs.SeeingChanges.{keeps, marked-ends, marks, soiled-ends}
 use Rattle.gb_bus.specs.Parts.{numbered, soiled}
 use Rattle.gb_machine.specs.Lists.{at_first}
 use Rattle.gb_bus.proofs.connections.Connections.soil.Goals as goal

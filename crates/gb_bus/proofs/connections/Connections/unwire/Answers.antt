@@ -1,6 +1,6 @@
 -- The connection with the number is cleared.
 use Rattle.std.proofs.Common.{sym}
-use Rattle.gb_bus.proofs.Seeing.{nothing-changes}
+use Rattle.gb_bus.proofs.SeeingChanges.{nothing-changes}
 use Rattle.gb_bus.proofs.SeeingWires.{kept-unwires, unwires}
 use Rattle.gb_bus.specs.Parts.{cleared}
 use Rattle.gb_bus.proofs.connections.Connections.unwire.Goals as goal

@@ -3,7 +3,7 @@ use Rattle.std.proofs.Common.{inl, inr, refl, sym}
 use Rattle.gb_base.specs.declared.end.End.TheVariants as end
 use Rattle.gb_bus.proofs.Keeping.{kept-stays}
 use Rattle.gb_bus.proofs.Queued.{no-queue}
-use Rattle.gb_bus.proofs.Seeing.{nothing-changes}
+use Rattle.gb_bus.proofs.SeeingChanges.{nothing-changes}
 use Rattle.gb_bus.proofs.SeeingWires.{kept-wires, wired-still, wires}
 use Rattle.gb_bus.specs.Parts.{with_wire}
 use Rattle.gb_bus.proofs.connections.Connections.wire.Goals as goal

@@ -1,6 +1,6 @@
 -- Whether the connection with a number is wired.
 use Rattle.std.proofs.Common.{None, Some, ap, option_map, sym, ◌∙◌}
-use Rattle.gb_bus.proofs.Seeing.{finds}
+use Rattle.gb_bus.proofs.SeeingChanges.{finds}
 use Rattle.gb_bus.specs.Connection.{Connection}
 use Rattle.gb_bus.proofs.connections.Connections.wired.Goals as goal
 

@@ -1,19 +1,18 @@
 -- A slot comes with its place and its deadline, or none of them.
 use Rattle.std.proofs.Common.{◌+◌, Some, ap, refl, subst, sym, ◌∙◌}
-use Rattle.gb_bus.proofs.SlotNew.{at-err, at-ok, opened-kept, restored, same-kept}
+use Rattle.gb_bus.proofs.SlotNew.{opened-kept, restored, same-kept}
 use Rattle.gb_bus.proofs.slots.Slots.open.Goals as goal
 use Rattle.slab.specs.Slab.{Updates}
 
-pub invariant_of-self-then-is_err : goal.invariant_of-self-then-is_err
-invariant_of-self-then-is_err c =
+pub invariant_of-self-in-Err : goal.invariant_of-self-in-Err
+invariant_of-self-in-Err c =
     restored c.self.inside.slots c.self.inside.places c.self.inside.deadlines c.self.inside.tally
     c.args.slot c.self.invariant
     (c.requires.number ∙ ap (λ x. x.tally.requests + 1) (sym c.self.view_is))
     c.reserve.new.self c.put.new.self c.insert.new.self c.remove.new.self
     c.in_ok-insert.field-0 c.remove.result
     (ap (λ x. x.slots) c.reserve.ensures.rest_kept)
-    (at-err c.put.result (sym c.is_err.ensures.value ∙ c.if-is_err.true)
-    c.put.ensures.unchanged)
+    c.in-Err.ensures.unchanged
     c.in_ok-insert.ensures.updates.0 c.remove.ensures.updates.0 c.in_ok-insert.ensures.added
     c.in_ok-insert.ensures.len c.remove.ensures.test c.remove.ensures.len
 
@@ -30,7 +29,7 @@ invariant_of-self-2 c =
     (subst (λ k. Updates c.reserve.new.self c.insert_reserved.new.self k (Some c.args.slot))
     (c.insert_reserved.ensures.key ∙ sym c.vacant_key-key.ensures.value)
     c.insert_reserved.ensures.updates)
-    (at-ok c.put.result (sym c.is_err.ensures.value ∙ c.if-is_err.false) c.put.ensures.put)
+    c.in_default.ensures.put
     c.insert.new.self c.in_ok-insert.field-0 c.add.new.self c.requires.unended
     c.requires.awaited c.in_ok-insert.ensures.updates.0 c.in_ok-insert.ensures.added
     c.in_ok-insert.ensures.len c.add.ensures

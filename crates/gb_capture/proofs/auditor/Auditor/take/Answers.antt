@@ -1,7 +1,7 @@
 -- What is written of a line, and which lines were taken then.
 use Rattle.std.proofs.Common.{◌≡◌, ℕ, ◌+◌, [], ◌++◌, reverse, ap, sym, subst, ◌∙◌}
 use Rattle.std.proofs.Common.{arith}
-use Rattle.gb_base.specs.declared.fault.CaptureFault.TheVariants as capture
+use Rattle.gb_base.specs.declared.reasons.CaptureFault.TheVariants as capture
 use Rattle.gb_capture.specs.Audits.{Stands, heard_at}
 use Rattle.gb_capture.proofs.Taking.{adds-at, adds-nothing, found-is, last-first, long-is}
 use Rattle.gb_capture.proofs.Taking.{nothing-is}

@@ -1,7 +1,7 @@
 -- The marks are those of the connections.
 use Rattle.std.proofs.Common.{◌==◌, ap, ◌∙◌}
 use Rattle.std.specs.List.{list_any}
-use Rattle.gb_base.specs.declared.peers.Link.{Link}
+use Rattle.gb_base.specs.declared.interface.Link.{Link}
 use Rattle.gb_host.specs.declared.links.Links.{Links}
 use Rattle.gb_machine.specs.Lists.{first_free}
 use Rattle.gb_host.proofs.connections.Connections.free_cport.Goals as goal

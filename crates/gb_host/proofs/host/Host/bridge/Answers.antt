@@ -1,13 +1,13 @@
 -- The line is written, or refused in the order of its conditions.
 use Rattle.std.proofs.Common.{◌<◌, ◌≤◌, ◌==◌, Err, Ok, Some, None, ap, sym, ◌∙◌, is_none, cond}
 use Rattle.std.proofs.Common.{rules, subst}
-use Rattle.gb_base.specs.declared.peers.Link.{Link}
+use Rattle.gb_base.specs.declared.interface.Link.{Link}
 use Rattle.gb_base.specs.declared.refusal.Refusal.TheVariants as why
 use Rattle.gb_bridge_payload.specs.Serving.{WritesBridged, bridge_fault_of}
 use Rattle.gb_formats.specs.Bridges.{ask_protocol, ask_request, credits_taken, is_too_large}
 use Rattle.gb_formats.specs.UartDevice.{credits_spent}
 use Rattle.gb_host.proofs.Bridges.{enough, short, too_large-is, unsupported-is, written-is}
-use Rattle.gb_host.proofs.Looks.{same-link, some-link}
+use Rattle.gb_host.proofs.LinksByNumber.{same-link, some-link}
 use Rattle.gb_host.specs.Bridging.{BridgesOn}
 use Rattle.gb_host.proofs.host.Host.bridge.Goals as goal
 

@@ -1,6 +1,6 @@
 -- The answer is read by the protocol of its connection.
 use Rattle.std.proofs.Common.{Some, ap, sym, ◌∙◌}
-use Rattle.gb_host.proofs.Looks.{looked}
+use Rattle.gb_host.proofs.LinksByNumber.{looked}
 use Rattle.gb_host.specs.Bridging.{reading_on}
 use Rattle.gb_host.proofs.host.Host.reading.Goals as goal
 

@@ -1,7 +1,7 @@
 -- The credits of the line are taken.
 use Rattle.std.proofs.Common.{sym, ◌∙◌}
 use Rattle.gb_host.proofs.Bridges.{takes-credits, takes-none}
-use Rattle.gb_host.proofs.Looks.{no-link}
+use Rattle.gb_host.proofs.LinksByNumber.{no-link}
 use Rattle.gb_host.proofs.host.Host.sent.Goals as goal
 
 pub returns-then-taken-eq0-clause-step : goal.returns-then-taken-eq0-clause-step

@@ -1,6 +1,6 @@
 -- The interface is enumerated.
 use Rattle.std.proofs.Common.{ap}
-use Rattle.gb_base.specs.declared.peers.Interface.{Interface}
+use Rattle.gb_base.specs.declared.interface.Interface.{Interface}
 use Rattle.gb_host.proofs.Changing.{none-changes, one-changes}
 use Rattle.gb_machine.specs.Host.{is_intf}
 use Rattle.gb_machine.specs.Sequences.{enumerated}

@@ -1,6 +1,6 @@
 -- The connection is the one at the place of its number, if there is one.
 use Rattle.std.proofs.Common.{◌==◌, Some, sym, ap, ◌∙◌}
-use Rattle.gb_base.specs.declared.peers.Link.{Link}
+use Rattle.gb_base.specs.declared.interface.Link.{Link}
 use Rattle.gb_machine.proofs.Positions.{none-stands, standing}
 use Rattle.gb_host.proofs.links.Links.of_rising.Goals as goal
 

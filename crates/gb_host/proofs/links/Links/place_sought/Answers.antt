@@ -1,7 +1,7 @@
 -- The connection is at the place from which on numbers aren't smaller, or nowhere.
 use Rattle.std.proofs.Common.{◌≡◌, ◌==◌, ◌<◌, false, length, ltb, rules, sym, ap, ◌∙◌, subst}
 use Rattle.std.proofs.lemmas.List.Sorted.{IsPartitionPoint-from_clause, IsPartitionedBy-ltb}
-use Rattle.gb_base.specs.declared.peers.Link.{Link}
+use Rattle.gb_base.specs.declared.interface.Link.{Link}
 use Rattle.gb_host.proofs.Rising.{IsPoint, at-point, behind-all, climbs, past-point}
 use Rattle.gb_host.specs.Indexes.{Rises}
 use Rattle.gb_host.proofs.links.Links.place_sought.Goals as goal

@@ -11,38 +11,32 @@ use Rattle.gb_module.proofs.ports.Ports.ended.Goals as goal
 
 pub returns-in_default-clause-step : goal.returns-in_default-clause-step
 returns-in_default-clause-step c manifest =
-    rw (none-stands c.args.number c.args.self.now c.place.result c.place.ensures.first
-    c.in_default.is) (refl, refl)
+    rw (none-stands c.args.number c.args.self.now c.place.ensures.first c.in_default.is)
+    (refl, refl)
 
 pub invariant_of-self : goal.invariant_of-self
 invariant_of-self c =
     let port = c.index_mut-port.result.now in
-    (found-at c.args.number c.args.self.now c.self.inside.ports.items c.place.result
-    c.in-Some.place port c.place.ensures.first c.in-Some.is c.self.view_is
-    c.index_mut-port.ensures.value).stay
-    c.self.inside.places c.self.invariant c.ended.new.self
+    let found = found-at c.place.ensures.first c.in-Some.is c.self.view_is
+    c.index_mut-port.ensures.value in
+    found.stay c.self.inside.places c.self.invariant c.ended.new.self
     (follows-number port c.ended.new.self
     (follows_in port.state c.args.outcome.now (loader_of port.device)) c.ended.result
     c.ended.ensures.step)
 
 pub returns-clause-step : goal.returns-clause-step
 returns-clause-step c manifest =
-    let port = c.index_mut-port.result.now in
-    ends-at c.args.number c.args.self.now c.self.inside.ports.items c.in-Some.place port
-    c.ended.new.self c.args.outcome.now manifest c.ended.result
-    (found-at c.args.number c.args.self.now c.self.inside.ports.items c.place.result
-    c.in-Some.place port c.place.ensures.first c.in-Some.is c.self.view_is
-    c.index_mut-port.ensures.value)
+    let found = found-at c.place.ensures.first c.in-Some.is c.self.view_is
+    c.index_mut-port.ensures.value in
+    ends-at c.ended.new.self c.args.outcome.now manifest c.ended.result found
     c.ended.ensures.step
 
 pub returns-clause-runs : goal.returns-clause-runs
 returns-clause-runs c =
     let port = c.index_mut-port.result.now in
-    runs-at c.args.number c.args.self.now c.self.inside.ports.items c.in-Some.place port
-    c.ended.new.self c.ended.result
-    (found-at c.args.number c.args.self.now c.self.inside.ports.items c.place.result
-    c.in-Some.place port c.place.ensures.first c.in-Some.is c.self.view_is
-    c.index_mut-port.ensures.value)
+    let found = found-at c.place.ensures.first c.in-Some.is c.self.view_is
+    c.index_mut-port.ensures.value in
+    runs-at c.ended.new.self c.ended.result found
     (follows-number port c.ended.new.self
     (follows_in port.state c.args.outcome.now (loader_of port.device)) c.ended.result
     c.ended.ensures.step)
@@ -50,11 +44,8 @@ returns-clause-runs c =
 
 pub returns-clause-few : goal.returns-clause-few
 returns-clause-few c =
-    let port = c.index_mut-port.result.now in
+    let found = found-at c.place.ensures.first c.in-Some.is c.self.view_is
+    c.index_mut-port.ensures.value in
     subst (λ (l : Option Loader).
     AreFew (bytes_after (follows c.args.outcome.now l)) → IsOk c.ended.result)
-    (sym (loader-found c.args.number c.args.self.now c.self.inside.ports.items c.in-Some.place port
-    (found-at c.args.number c.args.self.now c.self.inside.ports.items c.place.result
-    c.in-Some.place port c.place.ensures.first c.in-Some.is c.self.view_is
-    c.index_mut-port.ensures.value)))
-    c.ended.ensures.few
+    (sym (loader-found found)) c.ended.ensures.few

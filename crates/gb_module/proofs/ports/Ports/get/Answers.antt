@@ -7,11 +7,8 @@ use Rattle.gb_module.proofs.ports.Ports.get.Goals as goal
 pub returns-in_err-place : goal.returns-in_err-place
 returns-in_err-place c =
     ap option_copied c.from_residual.ensures
-    ∙ sym (none-stands c.args.number c.args.self.now c.place.result c.place.ensures.first
-    c.in_err-place.was)
+    ∙ sym (none-stands c.args.number c.args.self.now c.place.ensures.first c.in_err-place.was)
 
 pub returns : goal.returns
 returns c =
-    sym (found-at c.args.number c.args.self.now c.self.inside.ports.items c.place.result
-    c.in_ok-place.place c.index.result.now c.place.ensures.first c.in_ok-place.was
-    c.self.view_is c.index.ensures).found
+    sym (found-at c.place.ensures.first c.in_ok-place.was c.self.view_is c.index.ensures).found

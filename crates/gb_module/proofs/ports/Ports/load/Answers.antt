@@ -1,8 +1,6 @@
 -- The CPort with the number begins a download, and no other changes.
 use Rattle.std.proofs.Common.{ap, sym, ◌∙◌, false, option_map}
-use Rattle.std.specs.List.{find}
 use Rattle.gb_formats.specs.Loader.{is_running, loader_begun}
-use Rattle.gb_formats.specs.Module.{is_port}
 use Rattle.gb_module.proofs.Loading.{changes-at, loader-found, nowhere}
 use Rattle.gb_module.proofs.Standing.{found-at, none-stands}
 use Rattle.gb_module.proofs.Stepping.{number_of}
@@ -10,33 +8,25 @@ use Rattle.gb_module.proofs.ports.Ports.load.Goals as goal
 
 pub unreachable-requires : goal.unreachable-requires
 unreachable-requires c =
-    nowhere (find (is_port c.args.number) c.args.self.now) false
-    (none-stands c.args.number c.args.self.now c.place.result c.place.ensures.first
-    c.in_default.is) c.requires
+    nowhere false
+    (none-stands c.args.number c.args.self.now c.place.ensures.first c.in_default.is)
+    c.requires
 
 pub load-requires : goal.load-requires
 load-requires c =
-    let port = c.index_mut-port.result.now in
-    ap (option_map is_running) (sym (loader-found c.args.number c.args.self.now
-    c.self.inside.ports.items c.in-Some.place port
-    (found-at c.args.number c.args.self.now c.self.inside.ports.items c.place.result
-    c.in-Some.place port c.place.ensures.first c.in-Some.is c.self.view_is
-    c.index_mut-port.ensures.value))) ∙ c.requires
+    let found = found-at c.place.ensures.first c.in-Some.is c.self.view_is
+    c.index_mut-port.ensures.value in
+    ap (option_map is_running) (sym (loader-found found)) ∙ c.requires
 
 pub invariant_of-self : goal.invariant_of-self
 invariant_of-self c =
-    let port = c.index_mut-port.result.now in
-    (found-at c.args.number c.args.self.now c.self.inside.ports.items c.place.result
-    c.in-Some.place port c.place.ensures.first c.in-Some.is c.self.view_is
-    c.index_mut-port.ensures.value).stay
-    c.self.inside.places c.self.invariant c.load.new.self (ap number_of c.load.ensures.port)
+    let found = found-at c.place.ensures.first c.in-Some.is c.self.view_is
+    c.index_mut-port.ensures.value in
+    found.stay c.self.inside.places c.self.invariant c.load.new.self
+    (ap number_of c.load.ensures.port)
 
 pub returns-clause-module : goal.returns-clause-module
 returns-clause-module c manifest =
-    let port = c.index_mut-port.result.now in
-    changes-at c.args.number c.args.self.now c.self.inside.ports.items c.in-Some.place port
-    c.load.new.self (loader_begun c.args.tag.now) manifest
-    (found-at c.args.number c.args.self.now c.self.inside.ports.items c.place.result
-    c.in-Some.place port c.place.ensures.first c.in-Some.is c.self.view_is
-    c.index_mut-port.ensures.value)
-    c.load.ensures.port
+    let found = found-at c.place.ensures.first c.in-Some.is c.self.view_is
+    c.index_mut-port.ensures.value in
+    changes-at c.load.new.self (loader_begun c.args.tag.now) manifest found c.load.ensures.port

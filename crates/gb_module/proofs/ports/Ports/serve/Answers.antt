@@ -8,35 +8,29 @@ use Rattle.gb_module.proofs.ports.Ports.serve.Goals as goal
 
 pub returns-in_default-clause-step : goal.returns-in_default-clause-step
 returns-in_default-clause-step c manifest =
-    rw (none-stands c.args.number c.args.self.now c.place.result c.place.ensures.first
-    c.in_default.is) (c.refused.ensures, refl)
+    rw (none-stands c.args.number c.args.self.now c.place.ensures.first c.in_default.is)
+    (c.refused.ensures, refl)
 
 pub invariant_of-self : goal.invariant_of-self
 invariant_of-self c =
     let port = c.index_mut-port.result.now in
-    (found-at c.args.number c.args.self.now c.self.inside.ports.items c.place.result
-    c.in-Some.place port c.place.ensures.first c.in-Some.is c.self.view_is
-    c.index_mut-port.ensures.value).stay
-    c.self.inside.places c.self.invariant c.serve.new.self
+    let found = found-at c.place.ensures.first c.in-Some.is c.self.view_is
+    c.index_mut-port.ensures.value in
+    found.stay c.self.inside.places c.self.invariant c.serve.new.self
     (serves-number port c.serve.new.self c.args.kind c.args.payload.now c.serve.result
     c.serve.ensures.step)
 
 pub returns-clause-step : goal.returns-clause-step
 returns-clause-step c manifest =
-    let port = c.index_mut-port.result.now in
-    serves-at c.args.number c.args.self.now c.self.inside.ports.items c.in-Some.place port
-    c.serve.new.self c.args.kind c.args.payload.now manifest c.serve.result
-    (found-at c.args.number c.args.self.now c.self.inside.ports.items c.place.result
-    c.in-Some.place port c.place.ensures.first c.in-Some.is c.self.view_is
-    c.index_mut-port.ensures.value)
+    let found = found-at c.place.ensures.first c.in-Some.is c.self.view_is
+    c.index_mut-port.ensures.value in
+    serves-at c.serve.new.self c.args.kind c.args.payload.now manifest c.serve.result found
     c.serve.ensures.step
 
 pub returns-clause-few : goal.returns-clause-few
 returns-clause-few c =
-    let port = c.index_mut-port.result.now in
+    let found = found-at c.place.ensures.first c.in-Some.is c.self.view_is
+    c.index_mut-port.ensures.value in
     subst (λ (o : Option ModulePort).
     FewSucceed (device_answer o c.args.kind c.args.payload.now) c.serve.result)
-    (sym (found-at c.args.number c.args.self.now c.self.inside.ports.items c.place.result
-    c.in-Some.place port c.place.ensures.first c.in-Some.is c.self.view_is
-    c.index_mut-port.ensures.value).found)
-    c.serve.ensures.few
+    (sym found.found) c.serve.ensures.few

@@ -1,42 +1,61 @@
--- The identifier that came next is in use, by an open request, or all is as it was.
-use Rattle.std.proofs.Common.{refl, sym, ◌∙◌}
-use Rattle.gb_ops.proofs.Changing.{begins, begun_kept, next_seen, reached, refused_kept, refuses}
+-- The identifier that came next is in use, by an open request.
+use Rattle.std.proofs.Common.{sym, subst, ◌∙◌}
+use Rattle.gb_labels.specs.Drawing.{Takes}
+use Rattle.gb_ops.proofs.Changing.{begins, begins_anew, begun_anew_kept, begun_kept, view}
+use Rattle.gb_ops.specs.Calls.{Begins}
+use Rattle.gb_ops.specs.Tables.{Kept}
+use Rattle.gb_ops.specs.declared.ops.Ops.TheInside.{Inside}
+use Rattle.gb_ops.proofs.ops.Ops.begin.Goals.{in-Some, in_default-former}
 use Rattle.gb_ops.proofs.ops.Ops.begin.Goals as goal
-
-pub returns-in_default : goal.returns-in_default
-returns-in_default c = (
-  sym (next_seen c.self.inside.labels c.self.inside.tables c.args.self.now c.self.invariant
-      c.self.view_is) ∙ c.in_default.ensures.step.next,
-  refl,
-)
-
-pub returns-then-reaches : goal.returns-then-reaches
-returns-then-reaches c =
-    reached c.self.inside.labels c.self.inside.tables c.args.self.now c.in-Ok.label c.args.n
-    c.self.invariant c.self.view_is c.in-Ok.ensures.step
-    (c.reaches.ensures.some c.if-reaches.true)
-
-pub invariant_of-self : goal.invariant_of-self
-invariant_of-self c =
-    refused_kept c.self.inside.labels c.self.inside.tables c.enter.new.self c.self.invariant
-    c.in-Err.ensures.unchanged
-
-pub returns-in-Err : goal.returns-in-Err
-returns-in-Err c =
-    refuses c.self.inside.labels c.self.inside.tables c.enter.new.self c.args.self.now
-    c.in-Ok.label c.args.n c.self.invariant c.self.view_is c.in-Ok.ensures.step
-    (c.reaches.ensures.none c.if-reaches.false) c.in-Err.ensures.unchanged
 
 pub invariant_of-self-2 : goal.invariant_of-self-2
 invariant_of-self-2 c =
-    begun_kept c.self.inside.labels c.take.new.self c.self.inside.tables c.enter.new.self
-    c.in-Ok.label
-    c.args.n c.args.deadline c.self.invariant c.in-Ok.ensures.step
-    (c.reaches.ensures.none c.if-reaches.false) c.in_default-enter.ensures.entered c.take.ensures
+    elim c.match-former.branch [
+      | in-Some w ↦
+          subst (λ (i : Inside). Kept c.take.new.self i.tables) (sym w.self-inside-is)
+          (begun_anew_kept c.self.inside.labels w.free.new.self c.take.new.self
+          c.self.inside.tables c.enter.new.self w.release.new.self c.in-Ok.label c.args.n
+          c.args.deadline w.in-Some.former w.release.result c.self.invariant c.in-Ok.ensures.step
+          (sym c.in-Ok-enter.ensures.former ∙ w.in-Some.is) c.in-Ok-enter.ensures.entered
+          w.release.ensures w.free.ensures
+          (subst (λ (i : Inside). Takes i.labels c.take.new.self c.in-Ok.label) w.self-inside-is
+          c.take.ensures))
+      | in_default-former w ↦
+          subst (λ (i : Inside). Kept c.take.new.self i.tables) (sym w.self-inside-is)
+          (begun_kept c.self.inside.labels c.take.new.self c.self.inside.tables c.enter.new.self
+          c.in-Ok.label c.args.n c.args.deadline c.self.invariant c.in-Ok.ensures.step
+          (sym c.in-Ok-enter.ensures.former ∙ w.in_default-former.is)
+          c.in-Ok-enter.ensures.entered
+          (subst (λ (i : Inside). Takes i.labels c.take.new.self c.in-Ok.label) w.self-inside-is
+          c.take.ensures))
+    ]
 
 pub returns : goal.returns
 returns c =
-    begins c.self.inside.labels c.take.new.self c.self.inside.tables c.enter.new.self
-    c.args.self.now
-    c.in-Ok.label c.args.n c.args.deadline c.self.invariant c.self.view_is c.in-Ok.ensures.step
-    (c.reaches.ensures.none c.if-reaches.false) c.in_default-enter.ensures.entered c.take.ensures
+    elim c.match-former.branch [
+      | in-Some w ↦
+          subst
+          (λ (i : Inside).
+          Begins c.args.self.now (view c.take.new.self i.tables) c.args.n c.args.deadline
+          c.in-Ok.label)
+          (sym w.self-inside-is)
+          (begins_anew c.self.inside.labels w.free.new.self c.take.new.self
+          c.self.inside.tables c.enter.new.self w.release.new.self c.args.self.now c.in-Ok.label
+          c.args.n c.args.deadline w.in-Some.former w.release.result c.self.invariant
+          c.self.view_is c.in-Ok.ensures.step
+          (sym c.in-Ok-enter.ensures.former ∙ w.in-Some.is) c.in-Ok-enter.ensures.entered
+          w.release.ensures
+          (subst (λ (i : Inside). Takes i.labels c.take.new.self c.in-Ok.label) w.self-inside-is
+          c.take.ensures))
+      | in_default-former w ↦
+          subst
+          (λ (i : Inside).
+          Begins c.args.self.now (view c.take.new.self i.tables) c.args.n c.args.deadline
+          c.in-Ok.label)
+          (sym w.self-inside-is)
+          (begins c.self.inside.labels c.take.new.self c.self.inside.tables c.enter.new.self
+          c.args.self.now c.in-Ok.label c.args.n c.args.deadline c.self.invariant c.self.view_is
+          c.in-Ok.ensures.step c.in-Ok-enter.ensures.entered
+          (subst (λ (i : Inside). Takes i.labels c.take.new.self c.in-Ok.label) w.self-inside-is
+          c.take.ensures))
+    ]

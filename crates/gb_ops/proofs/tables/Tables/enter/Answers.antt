@@ -1,22 +1,34 @@
--- The number is taken away where no memory was found for the identifier.
-use Rattle.std.proofs.Common.{refl, rules}
-use Rattle.gb_ops.proofs.Maps.{covers_more, puts, restored}
+-- What stood at the number stands there again where no memory was found for the identifier.
+use Rattle.std.proofs.Common.{ap, is_some, refl, rules, sym, ◌∙◌}
+use Rattle.gb_ops.proofs.Maps.{covers_more, puts, restored, seen}
 use Rattle.gb_ops.proofs.tables.Tables.enter.Goals as goal
 
-pub returns-then-is_err-clause-unchanged : goal.returns-then-is_err-clause-unchanged
-returns-then-is_err-clause-unchanged c = record {
+pub restore-requires : goal.restore-requires
+restore-requires c =
+    ap is_some
+    (puts c.args.self.now.pending c.insert.new.self c.args.n _
+    c.in_ok-former.ensures.updates.0).here
+
+pub returns-in-Err-clause-unchanged : goal.returns-in-Err-clause-unchanged
+returns-in-Err-clause-unchanged c = record {
   holders = search rules;
   pending =
-      restored c.args.self.now.pending c.insert.new.self c.remove.new.self c.args.n _ c.requires
-      c.in_ok-insert.ensures.updates.0 c.remove.ensures.updates.0 c.insert.ensures.was_ordered
-      c.remove.ensures.ordered;
+      restored c.args.self.now.pending c.insert.new.self c.restore.new.pending c.args.n _
+      c.in_ok-former.former
+      (sym (c.in_ok-former.ensures.old ∙ seen c.args.self.now.pending.entries c.args.n))
+      c.in_ok-former.ensures.updates.0 c.restore.ensures.restored c.insert.ensures.was_ordered
+      c.restore.ensures.ordered;
   soonest = refl;
 }
+
+pub returns-clause-former : goal.returns-clause-former
+returns-clause-former c =
+    c.in_ok-former.ensures.old ∙ seen c.args.self.now.pending.entries c.args.n
 
 pub returns-clause-entered : goal.returns-clause-entered
 returns-clause-entered c =
     let pending =
-    puts c.args.self.now.pending c.insert.new.self c.args.n _ c.in_ok-insert.ensures.updates.0 in
+    puts c.args.self.now.pending c.insert.new.self c.args.n _ c.in_ok-former.ensures.updates.0 in
     record {
       holder = search rules;
       pending = pending;

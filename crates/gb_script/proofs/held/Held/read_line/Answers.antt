@@ -29,7 +29,7 @@ returns-in-Some-clause-line g c =
     line-ended c.args.self.now c.loop-self.self c.fill.new.self
     (g.S.Source.left c.args.source.now) (g.S.Source.left c.loop-self.source)
     (g.S.Source.left c.fill.new.source) c.in_ok-fill.field-0 inv.raw inv.plain inv.taken inv.room
-    c.in_ok-fill.ensures.bytes c.take.new.self c.in-Some.n inv.front
+    c.in_ok-fill.ensures.bytes c.take.new.self c.in-Some.n inv.kept
     c.in-Some.ensures c.in_ok-take.ensures
 
 pub returns-in_err-take-2-clause-line : goal.returns-in_err-take-2-clause-line
@@ -63,7 +63,7 @@ loop-self-preserved g c =
           (g.S.Source.left c.args.source.now) (g.S.Source.left c.loop-self.source)
           (g.S.Source.left c.fill.new.source) c.in_ok-fill.field-0 inv.raw inv.plain inv.taken
           inv.room c.in_ok-fill.ensures.bytes c.take-in-loop-self.new.self n n took;
-      front = took.front inv.raw inv.front;
+      kept = took.kept inv.raw inv.kept;
       room =
           rw (length-append inv.raw (take n piece), length-take n piece)
           (omega (arith, inv.room, took.room, ap length c.left-n.ensures));

@@ -1,7 +1,7 @@
 -- The bytes that came are the front of the line.
 use Rattle.std.proofs.Common.{◌≡◌, ◌≤◌, ◌+◌, List, ℕ, length, true}
 use Rattle.std.specs.Io.KnownBytes.{Consumes}
-use Rattle.gb_script.specs.Fronts.{IsFront}
+use Rattle.gb_script.specs.LineBuffers.{HoldsLine}
 use Rattle.gb_script.specs.Pieces.{HasNoLf, has_lf}
 use Rattle.gb_script.specs.Reading.{to_come}
 use Rattle.gb_script.proofs.held.Held.read_line.Given as goal
@@ -12,7 +12,7 @@ invariant-loop-self g l = record {
   plain : HasNoLf raw;
   taken : Consumes (to_come l.initial.self (g.S.Source.left l.initial.source))
       (to_come l.self (g.S.Source.left l.source)) raw;
-  front : IsFront l.self.front raw;
+  kept : HoldsLine l.self.buffer raw;
   room : length raw + l.self.room ≡ l.initial.self.room;
   within : l.initial.self.room ≤ 1048576;
   held : has_lf l.initial.self.piece ≡ true

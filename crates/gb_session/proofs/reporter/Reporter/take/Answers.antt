@@ -1,6 +1,6 @@
 -- A line that is taken does what the machine does.
 use Rattle.std.proofs.Common.{◌++◌, Ok, Err, ap, sym, subst, ◌∙◌}
-use Rattle.gb_base.specs.declared.fault.LineReason.TheVariants as bad
+use Rattle.gb_base.specs.declared.reasons.LineReason.TheVariants as bad
 use Rattle.gb_formats.proofs.JudgedValid.{judged-valid}
 use Rattle.gb_formats.specs.Texts.{entries_text, refusal_line_text}
 use Rattle.gb_script.specs.Tells.{Tells}

@@ -21,15 +21,16 @@ returns-in-Ok-open_request-clause-does c =
     (asks_does _ _ _ (Ok c.in-Ok-open_request.opened) _ c.named.new.self.within c.requires.asking
     c.in-Ok-open_request.ensures.opens)
 
-pub returns-in-Err-clause-does : goal.returns-in-Err-clause-does
-returns-in-Err-clause-does c =
+pub returns-in-Err-open_request-clause-does : goal.returns-in-Err-open_request-clause-does
+returns-in-Err-open_request-clause-does c =
     subst
-    (λ (p : Pass). DoesAs (known p) c.args.by c.args.e.now (Err c.in-Err.fault)
+    (λ (p : Pass). DoesAs (known p) c.args.by c.args.e.now (Err c.in-Err-open_request.fault)
     (known c.open_request.new.pass))
     c.named.ensures.pass
-    (asks_does (known c.named.new.self.pass) c.args.by c.args.e.now (Err c.in-Err.fault)
-    (known c.open_request.new.pass) c.named.new.self.within c.requires.asking
-    c.in-Err.ensures.opens)
+    (asks_does (known c.named.new.self.pass) c.args.by c.args.e.now
+    (Err c.in-Err-open_request.fault) (known c.open_request.new.pass) c.named.new.self.within
+    c.requires.asking
+    c.in-Err-open_request.ensures.opens)
 
 pub returns-in-Ok-open_request-clause-opens : goal.returns-in-Ok-open_request-clause-opens
 returns-in-Ok-open_request-clause-opens c =
@@ -38,9 +39,9 @@ returns-in-Ok-open_request-clause-opens c =
     c.in-Ok.name _ _ _ _ (ap known c.named.ensures.pass) c.named.ensures.items
     c.in-Ok.ensures.name c.in-Ok-open_request.ensures.opens c.put.ensures
 
-pub returns-in-Err-clause-opens : goal.returns-in-Err-clause-opens
-returns-in-Err-clause-opens c =
+pub returns-in-Err-open_request-clause-opens : goal.returns-in-Err-open_request-clause-opens
+returns-in-Err-open_request-clause-opens c =
     opens_failed (known c.args.self.now.pass) (known c.named.new.self.pass)
     c.args.self.now.held.items c.named.new.self.held.items c.args.by c.args.e.now c.args.name.now
-    c.in-Err.fault (known c.open_request.new.pass) (ap known c.named.ensures.pass)
-    c.named.ensures.items c.in-Err.ensures.opens
+    c.in-Err-open_request.fault (known c.open_request.new.pass) (ap known c.named.ensures.pass)
+    c.named.ensures.items c.in-Err-open_request.ensures.opens

@@ -1,4 +1,5 @@
 use Rattle.std.proofs.Common.{◌≡◌, [], refl, subst, sym}
+use Rattle.std.proofs.lemmas.Option.{slice_get_past}
 use Rattle.std.specs.Prelude.{MatchOption}
 use Rattle.gb_share.specs.Placing.{IsNext, left}
 use Rattle.gb_share.specs.declared.merging.Next.{Next}
@@ -15,7 +16,7 @@ returns-in_err-line c =
     c.in_ok-requester.ensures.lookup.3.0 c.in_ok-requester.ensures.lookup.1)
     (at_of _ _ _ _ _ c.deref.ensures.value c.from.ensures c.in_ok-at.ensures.lookup.3.0
     c.in_ok-at.ensures.lookup.1)
-    (past_of _ _ _ c.items.ensures c.in_err-line.ensures.lookup.3))
+    (slice_get_past _ _ c.in_err-line.ensures))
 
 pub returns-in_err-full : goal.returns-in_err-full
 returns-in_err-full c =
@@ -26,7 +27,7 @@ returns-in_err-full c =
     c.in_ok-requester.ensures.lookup.3.0 c.in_ok-requester.ensures.lookup.1)
     (at_of _ _ _ _ _ c.deref.ensures.value c.from.ensures c.in_ok-at.ensures.lookup.3.0
     c.in_ok-at.ensures.lookup.1)
-    (past_of _ _ _ c.items-2.ensures c.in_err-full.ensures.lookup.3))
+    (past_of _ _ _ c.items.ensures c.in_err-full.ensures.lookup.3))
 
 pub returns : goal.returns
 returns c = record {
@@ -36,9 +37,8 @@ returns c = record {
       c.in_ok-at.ensures.lookup.1;
   there = at_of _ _ _ _ _ c.deref-2.ensures.value c.from-2.ensures
       c.in_ok-requester.ensures.lookup.3.0 c.in_ok-requester.ensures.lookup.1;
-  line_is = at_of _ _ _ _ _ c.items.ensures refl c.in_ok-line.ensures.lookup.3.0
-      c.in_ok-line.ensures.lookup.1;
-  full_is = at_of _ _ _ _ _ c.items-2.ensures refl c.in_ok-full.ensures.lookup.3.0
+  line_is = c.in_ok-line.ensures;
+  full_is = at_of _ _ _ _ _ c.items.ensures refl c.in_ok-full.ensures.lookup.3.0
       c.in_ok-full.ensures.lookup.1;
   number = refl;
 }

@@ -1,12 +1,13 @@
-use Rattle.std.proofs.Common.{ap, ◌∙◌, ◌∷◌, [], ◌++◌}
+use Rattle.std.proofs.Common.{ap, refl, ◌∙◌, ◌∷◌, [], ◌++◌}
 use Rattle.std.specs.String.{string_bytes}
 use Rattle.gb_share.proofs.Placings.{done_stands, moved, shorter}
+use Rattle.gb_desk.specs.Journals.{past_of}
 use Rattle.gb_share.proofs.merging.Merging.place_done.Goals as goal
 
 pub returns-clause-stands : goal.returns-clause-stands
 returns-clause-stands c asked entries last by s =
-    done_stands asked c.args.self.now c.place.new.self c.args.done.now entries last c.args.who
-    c.args.next c.items.result.now c.requires.next c.items.ensures c.place.ensures.hex
+    done_stands asked c.args.self.now c.place.new.self (past_of c.args.done.now) entries last
+    c.args.who c.args.next _ c.requires.next refl c.place.ensures.hex
     (moved c.args.self.now c.place.new.self c.args.who c.args.next _ c.requires.next
     c.requires.full c.place.ensures.all c.in_ok-place.ensures.at)
     (c.in_ok-place.ensures.order

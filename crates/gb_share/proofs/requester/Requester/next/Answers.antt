@@ -5,9 +5,8 @@ use Rattle.gb_share.proofs.requester.Requester.next.Goals as goal
 
 pub returns-in_ok-note-in-Ok-clause-runs : goal.returns-in_ok-note-in-Ok-clause-runs
 returns-in_ok-note-in-Ok-clause-runs c =
-    done_runs c.args.self.now c.note.new.self c.index-items-items.result _ _
-    (read_there _ _ _ _ c.index-items-items.result c.items.ensures c.items-2.ensures
-    c.requires.left c.index-items-items.is)
+    done_runs c.args.self.now c.note.new.self c.in-Some.line.now _ _
+    (read_there _ _ _ _ c.items.ensures c.in-Some.ensures)
     c.in_ok-note-in-Ok.ensures.who c.in_ok-note-in-Ok.ensures.lines
     c.in_ok-note-in-Ok.ensures.noted c.in-Ok.ensures.does
     c.tried.ensures.few
@@ -15,9 +14,8 @@ returns-in_ok-note-in-Ok-clause-runs c =
 pub returns-in_ok-note-in-Err-Full-clause-runs : goal.returns-in_ok-note-in-Err-Full-clause-runs
 returns-in_ok-note-in-Err-Full-clause-runs c =
     let does = rw c.in-Err-Full.field-0-is at c.in-Err-Full.ensures.does in
-    full_runs c.args.self.now c.note-in-Err-Full.new.self c.index-items-items.result _ _
-    (read_there _ _ _ _ c.index-items-items.result c.items.ensures c.items-2.ensures
-    c.requires.left c.index-items-items.is)
+    full_runs c.args.self.now c.note-in-Err-Full.new.self c.in-Some.line.now _ _
+    (read_there _ _ _ _ c.items.ensures c.in-Some.ensures)
     c.in_ok-note-in-Err-Full.ensures.who c.in_ok-note-in-Err-Full.ensures.lines
     c.in_ok-note-in-Err-Full.ensures.noted does.0 does.2 c.in-Err-Full.ensures.kept
 
@@ -28,10 +26,9 @@ returns-in-Err-Busy-clause-runs c =
 
 pub returns-in_ok-note-in-Ok-clause-alone : goal.returns-in_ok-note-in-Ok-clause-alone
 returns-in_ok-note-in-Ok-clause-alone c a =
-    alone_done c.args.self.now c.note.new.self c.index-items-items.result c.args.self.now.who
+    alone_done c.args.self.now c.note.new.self c.in-Some.line.now c.args.self.now.who
     c.in-Ok.told _ _ _ _ (record {
-      line = read_there _ _ _ _ c.index-items-items.result c.items.ensures c.items-2.ensures
-          c.requires.left c.index-items-items.is;
+      line = read_there _ _ _ _ c.items.ensures c.in-Some.ensures;
       within = c.requires.left;
       short = c.args.self.now.short;
       lines = c.in_ok-note-in-Ok.ensures.lines;
@@ -44,10 +41,9 @@ pub returns-in_ok-note-in-Err-Full-clause-alone : goal.returns-in_ok-note-in-Err
 returns-in_ok-note-in-Err-Full-clause-alone c a =
     let does = rw c.in-Err-Full.field-0-is at c.in-Err-Full.ensures.does in
     let names = rw c.in-Err-Full.field-0-is at (c.in-Err-Full.ensures.names a.parts) in
-    alone_full c.args.self.now c.note-in-Err-Full.new.self c.index-items-items.result _ _ _ _
+    alone_full c.args.self.now c.note-in-Err-Full.new.self c.in-Some.line.now _ _ _ _
     (record {
-      line = read_there _ _ _ _ c.index-items-items.result c.items.ensures c.items-2.ensures
-          c.requires.left c.index-items-items.is;
+      line = read_there _ _ _ _ c.items.ensures c.in-Some.ensures;
       within = c.requires.left;
       short = c.args.self.now.short;
       lines = c.in_ok-note-in-Err-Full.ensures.lines;

@@ -3,7 +3,7 @@ use Rattle.std.proofs.Common.{[], Some, option_map, refl, sym, ap, ◌∙◌}
 use Rattle.gb_bus.specs.Wiring.{ends_of}
 use Rattle.gb_machine.specs.Bus.{next_number}
 use Rattle.gb_system.proofs.Asks.{ask-made, ask-nowhere, ask-unlabelled, number-nowhere}
-use Rattle.gb_system.proofs.Asks.{told-oneway, told-twoway}
+use Rattle.gb_system.proofs.Asks.{told-oneway, told-twoway, unlabelled-gone}
 use Rattle.gb_system.proofs.Standing.{rebussed}
 use Rattle.gb_system.specs.Drafts.{draft_of}
 use Rattle.gb_system.specs.Stands.{around_bus}
@@ -19,6 +19,13 @@ returns-in-Err-NoLabel-clause-number c = λ s st.
     let none = rw c.in-Err-NoLabel.field-0-is at
     (c.in-Err-NoLabel.ensures.step (around_bus [] s) s.bus st.bus) in
     sym (ap (option_map (λ l. next_number s.bus)) none.label)
+
+pub returns-in-Err-NoConnection-clause-number : goal.returns-in-Err-NoConnection-clause-number
+returns-in-Err-NoConnection-clause-number c = λ s st.
+    let none = rw c.in-Err-NoConnection.field-0-is at
+    (c.in-Err-NoConnection.ensures.step (around_bus [] s) s.bus st.bus) in
+    sym (ap (option_map (λ l. next_number s.bus))
+    (unlabelled-gone (draft_of c.args.q.now) s.bus none.gone))
 
 pub returns-in_ok-push-2-clause-number : goal.returns-in_ok-push-2-clause-number
 returns-in_ok-push-2-clause-number c = λ s st.
@@ -40,6 +47,14 @@ returns-in-Err-NoLabel-clause-step c = λ s st askable twoway.
     (c.in-Err-NoLabel.ensures.step (around_bus [] s) s.bus st.bus) in
     ask-unlabelled (draft_of c.args.q.now)
     (rebussed [] c.send.new.self s.bus st none.stands refl) none.label
+
+pub returns-in-Err-NoConnection-clause-step : goal.returns-in-Err-NoConnection-clause-step
+returns-in-Err-NoConnection-clause-step c = λ s st askable twoway.
+    let none = rw c.in-Err-NoConnection.field-0-is at
+    (c.in-Err-NoConnection.ensures.step (around_bus [] s) s.bus st.bus) in
+    ask-unlabelled (draft_of c.args.q.now)
+    (rebussed [] c.send.new.self s.bus st none.stands refl)
+    (unlabelled-gone (draft_of c.args.q.now) s.bus none.gone)
 
 pub returns-in_ok-push-2-clause-step : goal.returns-in_ok-push-2-clause-step
 returns-in_ok-push-2-clause-step c = λ s st askable twoway.

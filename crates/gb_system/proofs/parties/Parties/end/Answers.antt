@@ -1,5 +1,5 @@
--- The end is told, and what waited for the request goes on: the application processor, and then a
--- download.
+-- The end is told, and what waited for the request goes on: the application processor, and then
+-- a download.
 use Rattle.std.proofs.Common.{◌++◌, ◌∷◌, [], sym, ap, ◌∙◌}
 use Rattle.gb_base.specs.declared.entry.Entry.TheVariants as entry
 use Rattle.gb_base.specs.declared.outcome.Outcome.{Outcome}

@@ -3,7 +3,8 @@ use Rattle.std.proofs.Common.{◌+◌, List, ℕ, drop, drop_of_length-le, ap, �
 use Rattle.gb_machine.specs.OwnAsking.{far_asks, far_asks_all}
 use Rattle.gb_system.proofs.Asks.{far-cons, far-nil}
 use Rattle.gb_system.proofs.Midways.{drop-next, midway-as, midway-end, midway-first, midway-more}
-use Rattle.gb_system.specs.Acting.{AreAskable, IsAskable}
+use Rattle.gb_system.specs.Acting.{AreAskable}
+use Rattle.gb_laws.specs.Possible.{IsAskable}
 use Rattle.gb_system.specs.Doing.{Does}
 use Rattle.gb_system.specs.Drafts.{own_ask}
 use Rattle.gb_system.proofs.parties.Parties.far_ask_all.Goals as goal

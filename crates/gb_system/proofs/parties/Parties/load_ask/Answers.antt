@@ -3,7 +3,7 @@ use Rattle.std.proofs.Common.{List, ℕ, sym, subst}
 use Rattle.gb_machine.specs.OwnAsking.{far_asks}
 use Rattle.gb_system.proofs.Doings.{does-given_none}
 use Rattle.gb_system.proofs.LoadEnds.{load-asked}
-use Rattle.gb_system.specs.Acting.{IsAskable}
+use Rattle.gb_laws.specs.Possible.{IsAskable}
 use Rattle.gb_system.specs.Doing.{Does}
 use Rattle.gb_system.specs.Drafts.{own_ask}
 use Rattle.gb_system.specs.Loading.{asks_last}
@@ -20,7 +20,7 @@ returns c = record {
   step = λ s st askable.
       let own = c.args.own.now in
       load-asked c.args.way c.in-Some.connection c.args.intf c.args.cport c.in_ok-number.number own
-      c.put.new.self st c.in-Some.is (c.in_ok-number.ensures s st) c.in_ok-put.ensures
+      c.put.new.self st c.in-Some.is (c.in_ok-number.ensures.number s st) c.in_ok-put.ensures
       (λ t stand.
       subst (λ (p : List ℕ). Does c.far_ask.new.self
       (far_asks c.in-Some.connection (own_ask own.kind p own.oneway)) t c.args.told.now

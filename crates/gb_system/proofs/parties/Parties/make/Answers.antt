@@ -13,6 +13,16 @@ returns-then-spent c = record {
   );
 }
 
+pub returns-in-Err-Taken : goal.returns-in-Err-Taken
+returns-in-Err-Taken c = record {
+  step = λ s st. (
+    some-left _ (sym c.if-spent.false ∙ c.spent.ensures (around_bus [] s) s.bus st.bus),
+    λ pending attach intf cport.
+        absurd (rw c.in-Err-Taken.field-0-is at
+        (c.in-Err-Taken.ensures.step (around_bus [] s) s.bus st.bus attach)),
+  );
+}
+
 pub returns : goal.returns
 returns c = record {
   step = λ s st. (
@@ -20,8 +30,8 @@ returns c = record {
     λ pending attach intf cport.
         made-done c.attach.new.self c.made.new.self
         (making_of c.args.ap c.args.intf c.args.cport c.args.protocol) c.args.purpose
-        c.in_ok-connection.connection st
-        (c.in_ok-connection.ensures.step (around_bus [] s) s.bus st.bus attach)
+        c.in-Ok.connection st
+        (c.in-Ok.ensures.step (around_bus [] s) s.bus st.bus attach)
         (c.made.ensures.step s.host c.args.ap c.args.protocol st.host pending) intf cport
         c.in_ok-push.ensures.ok,
   );

@@ -6,6 +6,7 @@ use Rattle.gb_machine.specs.HostActs.{notices}
 use Rattle.gb_machine.specs.HostTurns.{host_turn}
 use Rattle.gb_system.proofs.Midways.{drop-next}
 use Rattle.gb_system.proofs.Notices.{Acting, acting-end, acting-first, acting-more, acting-skip}
+use Rattle.gb_system.proofs.Notices.{interfaces-fit}
 use Rattle.gb_system.proofs.parties.Parties.notice.Goals as goal
 
 pub loop-act-init : goal.loop-act-init
@@ -13,7 +14,7 @@ loop-act-init c = λ s st may.
     acting-first c.args.event c.on.new.self c.items-act-items.result.now st
     (subst (λ (all : List Act). Turns (host_turn c.args.event s.host) []
     c.on.new.self all) (sym c.items-act-items.ensures)
-    (c.in_ok-acts.ensures.step s.host st.host may.0)) may
+    (c.in_ok-acts.ensures.step s.host st.host (interfaces-fit c.args.event may.0))) may
 
 pub loop-act-preserved-then-skips : goal.loop-act-preserved-then-skips
 loop-act-preserved-then-skips c = λ s st may.

@@ -3,7 +3,7 @@ use Rattle.std.proofs.Common.{[], drop}
 use Rattle.gb_machine.specs.HostActs.{notices}
 use Rattle.gb_machine.specs.State.{State}
 use Rattle.gb_system.proofs.Notices.{Acting}
-use Rattle.gb_system.specs.Acting.{MayTurn}
+use Rattle.gb_laws.specs.Possible.{MayTurn}
 use Rattle.gb_system.specs.Stands.{PartsStand}
 use Rattle.gb_system.proofs.parties.Parties.notice.Given as goal
 

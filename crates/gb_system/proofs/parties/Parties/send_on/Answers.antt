@@ -12,7 +12,7 @@ returns-in_ok-bind c = record {
       c.args.kind c.args.payload.now c.args.timeout c.in_ok-deadline.deadline
       c.in_ok-number.field-0 c.in-Some.number st free
       (record { bound = c.in_ok-bind.ensures.ok; room = c.in_ok-bind.ensures.room }) c.keep.ensures
-      c.in_ok-deadline.ensures c.in_ok-number.ensures.number c.in-Some.is label
+      c.in_ok-deadline.ensures.time c.in_ok-number.ensures.number c.in-Some.is label
       (c.in_ok-number.ensures.step s st askable (λ e. refl));
 }
 

@@ -14,10 +14,10 @@ pub loop-number-init : goal.loop-number-init
 loop-number-init c = λ s st.
     mid-first st.run c.args.millis c.items-number-items.result.now
     (later-stand c.args.millis _ st.parts
-    (c.in_ok-self.ensures ∙ ap (λ n. c.args.self.now.time + n) c.from.ensures))
+    (c.in_ok-self.ensures.time ∙ ap (λ n. c.args.self.now.time + n) c.from.ensures))
     (c.items-number-items.ensures ∙ c.in_ok-due.ensures (around_bus [] s) s.bus st.parts.bus
     ∙ due-are s c.args.millis _ st.parts
-    (c.in_ok-self.ensures ∙ ap (λ n. c.args.self.now.time + n) c.from.ensures))
+    (c.in_ok-self.ensures.time ∙ ap (λ n. c.args.self.now.time + n) c.from.ensures))
 
 pub loop-number-preserved : goal.loop-number-preserved
 loop-number-preserved c = λ s st.
@@ -34,7 +34,7 @@ pub returns : goal.returns
 returns c = record {
   step = λ s st.
       let numbers = c.items-number-items.result.now in
-      let wait = c.in_ok-self.ensures ∙ ap (λ n. c.args.self.now.time + n) c.from.ensures in
+      let wait = c.in_ok-self.ensures.time ∙ ap (λ n. c.args.self.now.time + n) c.from.ensures in
       let t = c.loop-number.invariant s st in
       tick-done _ _ s c.args.millis numbers c.args.told.now c.loop-number.told
       (later-stand c.args.millis _ st.parts wait)

@@ -7,5 +7,5 @@ use Rattle.gb_system.proofs.parties.Parties.tick.Given as goal
 
 abbrev pub invariant-loop-number : goal.invariant-loop-number
 invariant-loop-number l = (s : State) → (st : PartiesStand l.fn.self s)
-    → MidTick l.self s st.run l.millis l.number-items (drop l.number-index l.number-items)
+    → MidTick l.self s l.millis l.number-items (drop l.number-index l.number-items)
     l.initial.told l.told

@@ -9,18 +9,18 @@ use Rattle.gbus.specs.Sessions.{TurnsAs, written}
 use Rattle.gbus.specs.Stages.{Gathers}
 use Rattle.gb_capture.specs.declared.auditor.Turn.{Turn}
 
-pub returns-in_default-clause-turns : goal.returns-in_default-clause-turns
-returns-in_default-clause-turns c = λ j left now taken after given line b g lends r.
+pub returns-in-Err-clause-turns : goal.returns-in-Err-clause-turns
+returns-in-Err-clause-turns c = λ j left now taken after given line b g lends r.
     let old = c.args.self.now in
     none-behind _ j left now taken after (lines_text j given) status.NoMemory refl g
     (before-line old.reader old.session j left now given line r b) (λ later wrote. tt)
 
-pub returns-in_default-add-clause-turns : goal.returns-in_default-add-clause-turns
-returns-in_default-add-clause-turns c = λ j left now taken after given line b g lends r.
+pub returns-in-Err-add-clause-turns : goal.returns-in-Err-add-clause-turns
+returns-in-Err-add-clause-turns c = λ j left now taken after given line b g lends r.
     let old = c.args.self.now in
     none-behind _ j left now taken after (lines_text j given) status.NoMemory refl
     (subst (λ (held : List ℕ). Gathers j left now taken after held (lines_text j given))
-    (sym c.in_default-add.ensures.err) g)
+    (sym c.in-Err-add.ensures.err) g)
     (before-line old.reader old.session j left now given line r b) (λ later wrote. tt)
 
 pub returns-in-Next-clause-turns : goal.returns-in-Next-clause-turns
@@ -34,7 +34,7 @@ returns-in-Next-clause-turns c = λ j left now taken after given line b g lends 
       behind = next.behind;
       gathers = gathers-more j left now taken after old.gathered (written new) c.add.new.self
           given line g (reads-to old.reader left now given line r) next.text
-          (c.in-Ok-add.ensures.ok ∙ ap (λ t. old.gathered ++ t) c.text.ensures);
+          (c.in_default.ensures.ok ∙ ap (λ t. old.gathered ++ t) c.text.ensures);
       reads = r;
       number = c.requires ∙ sym c.in-Ok.ensures.number;
     }
@@ -48,7 +48,7 @@ returns-in-Refused-clause-turns c = λ j left now taken after given line b g len
     none-behind _ j left now taken after (lines_text j (given ++ line ∷ [])) status.Refused refl
     (gathers-more j left now taken after old.gathered (written new) c.add.new.self
     given line g (reads-to old.reader left now given line r) (bad.text [])
-    (c.in-Ok-add.ensures.ok ∙ ap (λ t. old.gathered ++ t) c.text.ensures))
+    (c.in_default.ensures.ok ∙ ap (λ t. old.gathered ++ t) c.text.ensures))
     (whole-line old.reader new j left now given line r bad)
     (λ later wrote. (
       refused old.reader new j left now taken later given line r bad wrote,

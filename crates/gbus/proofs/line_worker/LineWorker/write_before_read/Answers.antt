@@ -1,6 +1,7 @@
 use Rattle.std.proofs.Common.{ℕ, List, subst, sym}
 use Rattle.gbus.proofs.Gathering.{all-written, write-stops}
 use Rattle.gbus.proofs.LineEnds.{behind-lines}
+use Rattle.gbus.specs.Endings.{status_of}
 use Rattle.gbus.proofs.line_worker.LineWorker.write_before_read.Goals as goal
 use Rattle.gbus.specs.Program.{lines_text}
 use Rattle.gbus.specs.Stages.{Gathers}
@@ -24,6 +25,6 @@ returns-in-Err-clause-stage g c = λ j left now taken st.
     let old = c.args.self.now in
     write-stops j left now taken (g.K.Sink.taken c.args.sink.now)
     (g.K.Sink.taken c.write.new.sink) old.gathered (lines_text j st.given) c.in-Err.stop
-    c.status_at.result c.status_at.ensures st.gathers
+    (status_of c.ended_at.result) c.ended_at.ensures.status st.gathers
     (behind-lines old.reader old.session j left now st.given st.reads st.behind)
     c.in-Err.ensures.bytes.0
