@@ -25,5 +25,6 @@ pub mod RowsRefusals
 pub mod RowsShared
 pub mod RowsShown
 pub mod ScriptRuns
+pub mod SharedRuns
 pub mod Scripts
 pub mod Steps

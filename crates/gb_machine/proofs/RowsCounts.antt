@@ -1,5 +1,5 @@
 -- How the requests of a run stand at its end.
-use Rattle.std.proofs.Common.{◌≡◌, [], ◌∷◌, codes, refl}
+use Rattle.std.proofs.Common.{◌≡◌, [], ◌∷◌, ◌++◌, codes, refl}
 use Rattle.gb_base.specs.declared.end.End.TheVariants as end
 use Rattle.gb_base.specs.declared.event.Event.TheVariants as event
 use Rattle.gb_formats.specs.Grammar.{name_of, ping_event}
@@ -14,6 +14,7 @@ pub counted : summary_text 10 (counts (trace (
     ∷ event.Deliver (end.Ap 0)
     ∷ ping_event 0 (codes "@b") ∷ event.Cancel (name_of 0 (codes "@b")) ∷ ping_event 0 (codes "@c")
     ∷ event.Tick 1000 ∷ ping_event 0 (codes "@d") ∷ event.Pull 2 ∷ [])))
-    ≡ text (codes "lines 10 refused 2 requests 4 answered 1 cancelled 1 timeout 1 disconnected 0 sent 0 open 1" ∷ [])
+    ≡ text ((codes "lines 10 refused 2 requests 4 answered 1 cancelled 1 timeout 1 disconnected 0 "
+    ++ codes "sent 0 open 1") ∷ [])
 unfolding report_opened
 counted = refl

@@ -60,7 +60,8 @@ pub spi_transfer : hex_behind (setup (codes "insert 2 spi"))
     (codes "spi @a 2 1 transfer 0 0 x:0102 r:2"
     ∷ codes "settle 9" ∷ [])
     ≡ text (codes "line 6 ok"
-    ∷ codes "ask #16 ap 2 > 2 1 type 04 size 40 28000100040000000000020040420f0002000000000000080340420f000200000000000008010102"
+    ∷ (codes "ask #16 ap 2 > 2 1 type 04 size 40 "
+    ++ codes "28000100040000000000020040420f0002000000000000080340420f000200000000000008010102")
     ∷ codes "line 7 ok"
     ∷ codes "reply #16 2 1 > ap 2 result 00 size 12 0c0001008400000001020202"
     ∷ codes "end #16 answered 00 01020202"

@@ -1,5 +1,5 @@
 -- Worked scripts with what they report: a module is plugged, enumerated and pulled.
-use Rattle.std.proofs.Common.{◌≡◌, [], ◌∷◌, codes, refl}
+use Rattle.std.proofs.Common.{◌≡◌, [], ◌∷◌, ◌++◌, codes, refl}
 use Rattle.gb_machine.proofs.Scripts.{hex_report, plain_behind, report_opened, text}
 
 -- a module is plugged and enumerated
@@ -49,8 +49,12 @@ pub enumerates : hex_report (codes "insert 2 gpio"
     ∷ codes "reply #12 2 0 > ap 1 result 00 size 10 0a000200830000004800"
     ∷ codes "end #12 answered 00 4800"
     ∷ codes "ask #13 ap 1 > 2 0 type 04 size 8 0800030004000000"
-    ∷ codes "reply #13 2 0 > ap 1 result 00 size 80 5000030084000000480000010800010001020000100002000701477265796275730000000c00020004024750494f0000080003000000000008000300010a000008000400000000000800040001000102"
-    ∷ codes "end #13 answered 00 480000010800010001020000100002000701477265796275730000000c00020004024750494f0000080003000000000008000300010a000008000400000000000800040001000102"
+    ∷ (codes "reply #13 2 0 > ap 1 result 00 size 80 "
+    ++ codes "5000030084000000480000010800010001020000100002000701477265796275730000000c000200"
+    ++ codes "04024750494f0000080003000000000008000300010a000008000400000000000800040001000102")
+    ∷ (codes "end #13 answered 00 "
+    ++ codes "480000010800010001020000100002000701477265796275730000000c00020004024750494f0000"
+    ++ codes "080003000000000008000300010a000008000400000000000800040001000102")
     ∷ codes "interface 2 enumerated"
     ∷ codes "settled 26" ∷ [])
 unfolding report_opened
@@ -126,7 +130,9 @@ pub replaced_while_enumerating : plain_behind (codes "insert 2 gpio"
     ∷ codes "end #21 answered 00 4800"
     ∷ codes "ask #22 ap 1 > 2 0 type 04 size 8"
     ∷ codes "reply #22 2 0 > ap 1 result 00 size 80"
-    ∷ codes "end #22 answered 00 480000010800010001020000100002000701477265796275730000000c00020004024750494f0000080003000000000008000300010a000008000400000000000800040001000102"
+    ∷ (codes "end #22 answered 00 "
+    ++ codes "480000010800010001020000100002000701477265796275730000000c00020004024750494f0000"
+    ++ codes "080003000000000008000300010a000008000400000000000800040001000102")
     ∷ codes "interface 2 enumerated"
     ∷ codes "settled 26" ∷ [])
 unfolding report_opened

@@ -2,15 +2,15 @@
 use Rattle.std.proofs.Common.{◌≡◌, ℕ, ◌+◌, true, false, List, [], ◌∷◌, ◌++◌, codes, length}
 use Rattle.std.proofs.Common.{refl}
 use Rattle.gb_formats.specs.Orders.{Merged, Place, merge}
-use Rattle.gb_formats.specs.Parts.{parts_from}
+use Rattle.gb_formats.specs.Parts.{parts, parts_from}
 use Rattle.gb_machine.proofs.Scripts.{after, report_opened, setup, text}
 use Rattle.gb_machine.specs.Journal as journal
-use Rattle.gb_machine.specs.Shared.{IsWritten, done_in, report_merged, shared, tickets_of}
+use Rattle.gb_machine.specs.Shared.{done_in, report_merged, shared, tickets_of}
 use Rattle.gb_machine.specs.State.{State, first_state}
 
 -- what is written of a script whose lines are done in an order
 abbrev plain_shared : List (List ℕ) → List Place → List ℕ
-plain_shared script order = shared false (text script) order
+plain_shared script order = shared false (parts (text script)).asked order
 
 -- what is written behind the order, from a state on
 abbrev merged_from : State → List Merged → List ℕ
@@ -96,10 +96,3 @@ pub a_full_line : plain_shared (codes "send @a svc ping"
     ∷ codes "ticket 1 @b #2 open" ∷ [])
 unfolding report_opened
 a_full_line = refl
-
--- where a line is bad, that line alone is named
-pub a_bad_line : IsWritten false
-    (text (codes "send @x svc ping" ∷ codes "requester 1" ∷ codes "sned" ∷ []))
-    (text (codes "line 3: bad word 1" ∷ []))
-unfolding report_opened
-a_bad_line = refl

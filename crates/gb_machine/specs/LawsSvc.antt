@@ -50,7 +50,7 @@ awaits_removal i s = list_any (is_removal_in i s.past.pulled) (svc_items side.Ap
 
 -- While it does, the power level of the interface is at most 1 and none of its
 -- connections is wired.
-pub record LeavesNothing (told : List Entry) (s : State) : Type 0 where
+pub record LeavesNothingWired (told : List Entry) (s : State) : Type 0 where
   pub low : (i : ℕ) → awaits_removal i s ≡ true → level_of i s.ports ≤ 1
   pub unwired : (i : ℕ) → awaits_removal i s ≡ true
       → Each (λ c. is_wired_to i c ≡ false) s.bus.connections
@@ -63,7 +63,7 @@ FindsUnwired m = (i : ℕ) → HandlesRemoval i m
 -- While a removal waits nothing of its interface is wired, in every state of a run, so nothing is
 -- where it is handled.
 abbrev pub RemovalLeavesNothingWired : Type 0
-RemovalLeavesNothingWired = HoldsThroughout LeavesNothing × HoldsAtEachMoment FindsUnwired
+RemovalLeavesNothingWired = HoldsThroughout LeavesNothingWired × HoldsAtEachMoment FindsUnwired
 
 -- ---- one enumeration request and then restarts
 

@@ -1,25 +1,25 @@
 -- What `share` writes of a script with requesters.
-use Rattle.std.specs.Prelude.{◌≡◌, ◌≤◌, ℕ, ◌==◌, nat_le, Bool, true, false, ◌&&◌, ◌||◌, Option}
-use Rattle.std.specs.Prelude.{Some, None, is_none, if◌then◌else◌, List, [], ◌∷◌, ◌++◌, length}
+use Rattle.std.specs.Prelude.{◌≡◌, ◌≤◌, ℕ, ◌==◌, nat_le, Bool, true, false, ◌&&◌, ◌||◌}
+use Rattle.std.specs.Prelude.{is_none, if◌then◌else◌, List, [], ◌∷◌, ◌++◌, length}
 use Rattle.std.specs.List.{list_any}
 use Rattle.gb_base.specs.declared.entry.Entry.TheVariants as entry
 use Rattle.gb_base.specs.declared.event.Event.{Event}
-use Rattle.gb_base.specs.declared.reasons.LineReason.{LineReason}
 use Rattle.gb_base.specs.declared.name.Name.{Name}
 use Rattle.gb_base.specs.declared.parts.Asked.{Asked}
 use Rattle.gb_base.specs.declared.refusal.Refusal.TheVariants as why
 use Rattle.gb_formats.specs.Orders.{IsFair, Merged, Place, is_by, merge}
-use Rattle.gb_formats.specs.Parts.{parts}
 use Rattle.gb_formats.specs.ShowTexts.{order_text, ticket_line}
-use Rattle.gb_formats.specs.Texts.{ended, entries_text, refusal_line_text}
+use Rattle.gb_formats.specs.Texts.{ended, entries_text}
+use Rattle.gb_machine.specs.Actions.{Told}
 use Rattle.gb_machine.specs.AskingEvents.{asks}
 use Rattle.gb_machine.specs.Bus.{Bus, next_number, outcome_of}
-use Rattle.gb_machine.specs.Events.{step}
+use Rattle.gb_machine.specs.Events.{step, trace}
 use Rattle.gb_machine.specs.Journal.{after}
 use Rattle.gb_machine.specs.Members.{times}
 use Rattle.gb_machine.specs.Names.{names_in_order}
 use Rattle.gb_machine.specs.Refusals.{refusal}
 use Rattle.gb_machine.specs.Report.{event_reported}
+use Rattle.gb_machine.specs.Runs.{AreValid}
 use Rattle.gb_machine.specs.State.{State, first_state}
 
 -- ---- the text
@@ -60,9 +60,9 @@ abbrev pub shared_lines : Bool → List Place → List Merged → List ℕ
 shared_lines hex order ms =
     order_text order ++ (report_merged hex first_state ms ++ tickets_of (state_after ms))
 
--- What is written of a script whose lines are done in an order.
-abbrev pub shared : Bool → List ℕ → List Place → List ℕ
-shared hex text order = shared_lines hex order (merge (parts text).asked order)
+-- What is written of a script's lines that are done in an order.
+abbrev pub shared : Bool → List Asked → List Place → List ℕ
+shared hex asked order = shared_lines hex order (merge asked order)
 
 -- ---- which places are full
 
@@ -112,18 +112,26 @@ pub record FullPlaces (ms : List Merged) : Type 0 where
 
 -- ---- the promise
 
--- The text is what is written of a script without a bad line, for some order.
-pub record IsShared (hex : Bool) (text written : List ℕ) : Type 0 where
+-- What is written of a script's lines: they are done in an order.
+pub record IsTold (hex : Bool) (asked : List Asked) (written : List ℕ) : Type 0 where
   pub order : List Place
-  pub fair : IsFair (parts text).asked order
-  pub full : FullPlaces (merge (parts text).asked order)
-  pub written_is : written ≡ shared hex text order
+  pub fair : IsFair asked order
+  pub full : FullPlaces (merge asked order)
+  pub written_is : written ≡ shared hex asked order
 
--- where a line is bad, that line alone is named
-abbrev pub IsSharedOr : Option (ℕ × LineReason) → Bool → (text written : List ℕ) → Type 0
-IsSharedOr None hex text written = IsShared hex text written
-IsSharedOr (Some (n, why)) hex text written = written ≡ refusal_line_text n why
+-- ---- that it is of a run of events
 
--- What `share` writes of a script.
-abbrev pub IsWritten : Bool → (text written : List ℕ) → Type 0
-IsWritten hex text written = IsSharedOr (parts text).bad hex text written
+-- the text of these lines: of each that isn't full what is told of its event
+abbrev pub merged_text : Bool → List Merged → List Told → List ℕ
+merged_text hex [] told = []
+merged_text hex ((a, true) ∷ ms) told =
+    entries_text a.line hex (entry.Refused why.Full ∷ []) ++ merged_text hex ms told
+merged_text hex ((a, false) ∷ ms) [] = []
+merged_text hex ((a, false) ∷ ms) (t ∷ ts) =
+    entries_text a.line hex t.entries ++ merged_text hex ms ts
+
+-- The report of lines is the text of the trace of the events that are done, which the machine may
+-- be given.
+pub record IsMergedTrace (hex : Bool) (ms : List Merged) : Type 0 where
+  pub valid : AreValid (done_in ms)
+  pub report_is : report_merged hex first_state ms ≡ merged_text hex ms (trace (done_in ms))

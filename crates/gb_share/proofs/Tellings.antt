@@ -10,12 +10,11 @@ use Rattle.gb_formats.specs.Orders.{AreThreaded, Merged, Place, is_by, merge}
 use Rattle.gb_formats.specs.ShowTexts.{order_text}
 use Rattle.gb_machine.specs.AskingEvents.{asks}
 use Rattle.gb_machine.specs.Journal.{after}
-use Rattle.gb_machine.specs.Shared.{FullPlaces, done_in, report_merged}
+use Rattle.gb_machine.specs.Shared.{FullPlaces, IsTold, done_in, report_merged}
 use Rattle.gb_machine.specs.Shared.{state_after, tickets_of}
 use Rattle.gb_machine.specs.State.{State, first_state}
 use Rattle.gb_share.specs.Fulls.{AreExact, AskMost, DoAsk, own_lines}
 use Rattle.gb_share.specs.Placing.{HasLed, IsReady, left}
-use Rattle.gb_share.specs.Shares.{IsTold}
 use Rattle.gb_share.specs.declared.merging.Merging.{Merging}
 use Rattle.gb_share.proofs.Queues.{times_asked}
 use Rattle.gb_share.proofs.ZerosFirst.{ZerosFirst, high_both, leading_high, own_front}

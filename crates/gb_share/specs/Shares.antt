@@ -4,9 +4,8 @@ use Rattle.std.specs.List.{slice_get}
 use mathlib.Core.List.{IsPrefix}
 use Rattle.gb_base.specs.declared.journal.JournalEntry.{JournalEntry}
 use Rattle.gb_base.specs.declared.parts.Asked.{Asked}
-use Rattle.gb_formats.specs.Orders.{IsFair, Place, merge}
 use Rattle.gb_machine.specs.Journal.{IsLegal, after, events_of}
-use Rattle.gb_machine.specs.Shared.{FullPlaces, shared_lines}
+use Rattle.gb_machine.specs.Shared.{IsTold}
 use Rattle.gb_machine.specs.State.{first_state}
 use Rattle.gb_share.specs.Doing.{events_by}
 use Rattle.gb_share.specs.Fulls.{AreExact, AskMost}
@@ -57,13 +56,6 @@ pub record WereRun (asked : List Asked) (xs : List Requester) (system : System)
   pub are : AreRequesters asked fresh
   pub same : AreSame fresh xs
   pub shared : IsShared xs system journal
-
--- What is written of a script's lines: they are done in an order.
-pub record IsTold (hex : Bool) (asked : List Asked) (written : List ℕ) : Type 0 where
-  pub order : List Place
-  pub fair : IsFair asked order
-  pub full : FullPlaces (merge asked order)
-  pub written_is : written ≡ shared_lines hex order (merge asked order)
 
 -- A text is what is written of the lines of these requesters, whichever script they are of.
 abbrev pub Tells : Bool → List Requester → System → List JournalEntry → List ℕ → Type 0

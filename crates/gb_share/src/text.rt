@@ -2,10 +2,11 @@
 
 ghost use Rattle.std.specs.Prelude.{◌≡◌, ◌<◌, ◌≤◌, IfOk, length};
 ghost use Rattle.std.specs.String.{string_bytes};
+ghost use Rattle.gb_machine.specs.Shared.{IsTold};
 ghost use Rattle.gb_share.specs.Lines.{AreValid};
 ghost use Rattle.gb_share.specs.Parting.{AreReadyToRun};
 ghost use Rattle.gb_share.specs.Requesters.{AreSame};
-ghost use Rattle.gb_share.specs.Shares.{IsShared, IsTold, Tells};
+ghost use Rattle.gb_share.specs.Shares.{IsShared, Tells};
 
 use crate::merging::Merging;
 use crate::parting::requesters;

@@ -9,12 +9,14 @@ use Rattle.gb_formats.specs.Dump.{manifest_verdict}
 use Rattle.gb_formats.specs.Lines.{ended_lines}
 use Rattle.gb_formats.specs.Manifest.{Manifest, check_answer}
 use Rattle.gb_formats.specs.ManifestRules.{Refused}
+use Rattle.gb_formats.specs.Orders.{merge}
 use Rattle.gb_formats.specs.Parts.{parts}
 use Rattle.gb_formats.specs.Source.{SourceFault, compile_answer}
 use Rattle.gb_formats.specs.SourceTexts.{compile_verdict, decompile_verdict}
 use Rattle.gb_laws.proofs.identifiers.Single.{counts-add-up}
 use Rattle.gb_laws.proofs.together.Together.{headline-holds}
 use Rattle.gb_machine.proofs.ScriptRuns.{reports-traced}
+use Rattle.gb_machine.proofs.SharedRuns.{merged-traced}
 use Rattle.gb_machine.specs.ScriptRuns.{script_events}
 use Rattle.gb_machine.specs.Summary.{made_events}
 use Rattle.gbus.proofs.Driving.{made_events-valid}
@@ -177,7 +179,9 @@ of_run None = tt
 of_run (Some (ByLine (Report hex))) = λ text. reports-traced hex (lines_within text)
 of_run (Some (ByLine Audit)) = λ text. tt
 of_run (Some (Whole j)) = λ text. tt
-of_run (Some (Share hex)) = λ text order. events-valid (lines_within text) order
+of_run (Some (Share hex)) = λ text order.
+    merged-traced hex (merge (parts (lines_within text)).asked order)
+    (events-valid (lines_within text) order)
 of_run (Some (Drive seed)) =
     λ text. (made_events-valid seed, counts-add-up (made_events seed))
 

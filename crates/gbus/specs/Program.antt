@@ -23,10 +23,9 @@ use Rattle.gb_formats.specs.SourceTexts.{decompile_verdict}
 use Rattle.gb_formats.specs.Texts.{refusal_line_text}
 use Rattle.gb_formats.specs.WordValues.{number_word}
 use Rattle.gb_machine.specs.Report.{has_bad_line, report, report_from}
-use Rattle.gb_machine.specs.Shared.{done_in}
+use Rattle.gb_machine.specs.Shared.{IsTold, done_in}
 use Rattle.gb_machine.specs.State.{first_state}
 use Rattle.gb_machine.specs.Summary.{summary}
-use Rattle.gb_share.specs.Shares.{IsTold}
 
 -- ---- what is written of an input that is read line by line
 

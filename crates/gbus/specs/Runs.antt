@@ -6,12 +6,13 @@ use Rattle.gb_base.specs.Faults.{Rose}
 use Rattle.gb_base.specs.declared.status.Status.{Status}
 use Rattle.gb_base.specs.declared.status.Status.TheVariants as status
 use Rattle.gb_formats.specs.Lines.{ended_lines, lines, longest_input}
-use Rattle.gb_formats.specs.Orders.{Place}
+use Rattle.gb_formats.specs.Orders.{Place, merge}
 use Rattle.gb_formats.specs.Parts.{parts}
 use Rattle.gb_machine.specs.Events.{trace}
 use Rattle.gb_machine.specs.Headline.{Headline}
 use Rattle.gb_machine.specs.Runs.{AreValid}
 use Rattle.gb_machine.specs.ScriptRuns.{IsTraced, script_events}
+use Rattle.gb_machine.specs.Shared.{IsMergedTrace}
 use Rattle.gb_machine.specs.Summary.{IsSum, counts, made_events}
 use Rattle.gbus.specs.Answers.{bytes_in}
 use Rattle.gbus.specs.Program.{Audit, ByLine, Drive, Job, LineJob, Report, Share, Whole, Writes}
@@ -195,14 +196,15 @@ abbrev pub EndsWell : Option Job → List ℕ → Status → Type 0
 EndsWell job text s = IfSome job (λ j. s ≡ verdict j text ⊎ s ≡ status.NoMemory)
 
 -- What is written of a script is the text of the trace of its events, which are valid. Where its
--- lines are run by their requesters, the events are valid in every order. The summary of a made
--- script is that of the trace of its events: these are valid too, and each request is counted once.
+-- lines are run by their requesters, so is the report of the lines in every order. The summary of a
+-- made script is that of the trace of its events: these are valid too, and each request is counted
+-- once.
 abbrev pub TracesBy : Job → List ℕ → Type 0
 TracesBy (ByLine (Report hex)) text = IsTraced hex (lines_within text)
 TracesBy (ByLine Audit) text = ⊤
 TracesBy (Whole j) text = ⊤
 TracesBy (Share hex) text =
-    (order : List Place) → AreValid (events_in (parts (lines_within text)) order)
+    (order : List Place) → IsMergedTrace hex (merge (parts (lines_within text)).asked order)
 TracesBy (Drive seed) text =
     AreValid (made_events seed) × IsSum (counts (trace (made_events seed)))
 

@@ -8,7 +8,7 @@ use Rattle.gb_base.specs.declared.end.End.TheVariants as end
 use Rattle.gb_base.specs.declared.end.Side.TheVariants as side
 use Rattle.gb_base.specs.declared.entry.Entry.{Entry}
 use Rattle.gb_machine.specs.Bus.{Ask, Connection, Item}
-use Rattle.gb_machine.specs.LawsSvc.{FindsUnwired, LeavesNothing, awaits_removal}
+use Rattle.gb_machine.specs.LawsSvc.{FindsUnwired, LeavesNothingWired, awaits_removal}
 use Rattle.gb_machine.specs.Runs.{IsMoment, Moment, after, told_at}
 use Rattle.gb_machine.specs.SvcQueues.{HandlesRemoval, is_removal_in, svc_items}
 use Rattle.gb_machine.specs.{Lists.first, Members.IsIn, Ports.level_of, State.State}
@@ -78,7 +78,7 @@ quiet-throughout =
 
 -- ---- the law
 
-pub leaves : (told : List Entry) (s : State) → QuietTo told s → LeavesNothing told s
+pub leaves : (told : List Entry) (s : State) → QuietTo told s → LeavesNothingWired told s
 leaves told s h = record {
   low = low;
   unwired = λ i r. each-from (λ c. is_wired_to i c ≡ false) s.bus.connections
@@ -108,8 +108,8 @@ leaves told s h = record {
         let one = low i r in
         absurd (omega (arith, six, one))
 
-pub leaves-by_moments : HoldsByMoments LeavesNothing
-leaves-by_moments = weaker QuietTo LeavesNothing leaves quiet-throughout
+pub leaves-by_moments : HoldsByMoments LeavesNothingWired
+leaves-by_moments = weaker QuietTo LeavesNothingWired leaves quiet-throughout
 
 -- a removal that is handled waits before
 pub waits-before : (i : ℕ) (m : Moment) → HandlesRemoval i m → awaits_removal i m.before ≡ true

@@ -17,7 +17,7 @@ use Rattle.gb_machine.specs.LawsHotPlug.{NothingLeftAfterRemoval, OpenIsLive, Re
 use Rattle.gb_machine.specs.LawsHotPlug.{RememberedWhileLive, TakesFromItsConnection}
 use Rattle.gb_machine.specs.LawsHotPlug.{WereOpened, WiredAtMostOnce, WiredByItsRequest, WiredOnce}
 use Rattle.gb_machine.specs.LawsSvc.{AreRouted, AwaitedIsTheLast, AwaitsLast, FindsUnwired, IsQuiet}
-use Rattle.gb_machine.specs.LawsSvc.{LeavesNothing, OneEnumerationRequestThenRestarts}
+use Rattle.gb_machine.specs.LawsSvc.{LeavesNothingWired, OneEnumerationRequestThenRestarts}
 use Rattle.gb_machine.specs.LawsSvc.{OneThenRestarts, QuietBeforeRemoval, RemovalLeavesNothingWired}
 use Rattle.gb_machine.specs.LawsSvc.{StaleIsLow, StaleRequestsMeetLowLevel, WiredMeansRouted}
 use Rattle.gb_machine.specs.Runs.{AreValid, HoldsAtEachMoment, HoldsThroughout, state_by, told_by}
@@ -204,7 +204,7 @@ wired-routed = of-all AreRouted (of-state _) routed-by_moments
 -- While a removal waits nothing of its interface is wired, nor is it where that is handled.
 pub nothing-wired : RemovalLeavesNothingWired
 nothing-wired = (
-  of-all LeavesNothing (of-untold LeavesNothing
+  of-all LeavesNothingWired (of-untold LeavesNothingWired
       (λ told more s h. record { low = h.low; unwired = h.unwired })) leaves-by_moments,
   at-all FindsUnwired finds-at_moments,
 )

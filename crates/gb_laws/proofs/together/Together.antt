@@ -51,6 +51,7 @@ facts-together = record {
 -- the headline, of every run
 pub headline-holds : HeadlineHolds
 headline-holds es valid = record {
+  moments = settles-are_deliveries es valid;
   answered = answered-by_its_responder es valid;
   once = ends-at-most-once es valid;
   caused = every-end_has_its_cause es valid;
@@ -65,5 +66,12 @@ headline-holds es valid = record {
   own = record {
     items = no-foreign.0 es valid;
     takes = no-foreign.1 es valid;
+    wires = record {
+      once = wired-at_most_once.once es valid;
+      own = wired-at_most_once.own es valid;
+      kept = wired-at_most_once.kept es valid;
+      one = wired-at_most_once.one es valid;
+      made = wired-at_most_once.live es valid;
+    };
   };
 }
