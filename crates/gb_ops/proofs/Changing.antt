@@ -76,13 +76,14 @@ puts_to at f es fs k w same p = record {
 
 pub begins : (labels after : LabelSet) (t u : Tables) (x : Operations) (label n d : ℕ)
     → Kept labels t
-    → view labels t ≡ x → IsNext labels label
+    → view labels t ≡ x → IsNext labels label → pending_in t n ≡ None
     → Enters t u label n d → Takes labels after label
     → Begins x (view after u) n d label
-begins labels after t u x label n d k is next e w =
+begins labels after t u x label n d k is next none e w =
     subst (λ o. Begins o (view after u) n d label) is (record {
       next = sym (next_same labels t k) ∙ next.next;
-      holder = λ none. e.holder;
+      holder = λ new. e.holder;
+      again = λ former there. absurd (cc (there, none));
       pending = e.pending;
       last = w.last;
     })
@@ -105,6 +106,12 @@ begins_anew labels freed after t m u x label n d p r k is next there e l w =
     subst (λ o. Begins o (view after u) n d label) is (record {
       next = sym (next_same labels t k) ∙ next.next;
       holder = λ none. absurd (cc (there, none));
+      again = λ former is. record {
+        between = holder_in m;
+        taken = e.holder;
+        freed = subst (λ (q : Pending). Puts (holder_in m) (holder_in u) q.label None)
+            (same_some p former (sym there ∙ is)) l.holder;
+      };
       pending = puts_from by_number (pending_in t) (numbered m.pending.entries)
           (numbered u.pending.entries) n (Some (record { label = label; deadline = d }))
           (ap (λ b. numbered b.entries) l.pending) e.pending;

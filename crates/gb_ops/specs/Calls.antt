@@ -8,6 +8,7 @@ use Rattle.gb_ops.specs.declared.entries.BeginFault.{BeginFault}
 use Rattle.gb_ops.specs.declared.entries.BeginFault.TheVariants as begin
 use Rattle.gb_ops.specs.declared.entries.Matched.{Matched}
 use Rattle.gb_ops.specs.declared.entries.Matched.TheVariants as matched
+use Rattle.gb_ops.specs.declared.entries.Holder.{Holder}
 use Rattle.gb_ops.specs.declared.entries.Pending.{Pending}
 
 -- no request was begun
@@ -18,12 +19,19 @@ no_operations = record { holders = []; pending = []; last = 0 }
 abbrev pub emptied : Operations → Operations
 emptied x = record { holders = []; pending = []; last = x.last }
 
--- A request is open, and has the identifier that came next. Where it was open already nothing is
--- said of the identifiers in use.
+-- An identifier is in use by a request that was open already, and its former one is free.
+pub record Replaces (old new : Operations) (n label : ℕ) (former : Pending) : Type 0 where
+  pub between : ℕ → Option Holder
+  pub taken : Puts (holder_of old) between label (Some (record { number = n; given_up = false }))
+  pub freed : Puts between (holder_of new) former.label None
+
+-- A request is open, and has the identifier that came next.
 pub record Begins (old new : Operations) (n deadline label : ℕ) : Type 0 where
   pub next : next_label old ≡ Some label
   pub holder : pending_at old n ≡ None → Puts (holder_of old) (holder_of new) label
       (Some (record { number = n; given_up = false }))
+  pub again : (former : Pending) → pending_at old n ≡ Some former
+      → Replaces old new n label former
   pub pending : Puts (pending_at old) (pending_at new) n
       (Some (record { label = label; deadline = deadline }))
   pub last : new.last ≡ label

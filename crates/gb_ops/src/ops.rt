@@ -56,8 +56,8 @@ impl Ops {
     }
 
     /// Request n is open from now on, and its identifier is answered: the next one. `deadline` is
-    /// in milliseconds. Where n was open already nothing is said of the identifiers in use. After
-    /// each refusal all is as before.
+    /// in milliseconds. Where n was open already its former identifier is free. After each refusal
+    /// all is as before.
     pub fn begin(&mut self, n: u64, deadline: u64) -> Result<u16, BeginFault>
         ensures { BeginsAs self.old self.new n deadline result }
     {

@@ -55,7 +55,8 @@ returns c =
           (sym w.self-inside-is)
           (begins c.self.inside.labels c.take.new.self c.self.inside.tables c.enter.new.self
           c.args.self.now c.in-Ok.label c.args.n c.args.deadline c.self.invariant c.self.view_is
-          c.in-Ok.ensures.step c.in-Ok-enter.ensures.entered
+          c.in-Ok.ensures.step (sym c.in-Ok-enter.ensures.former ∙ w.in_default-former.is)
+          c.in-Ok-enter.ensures.entered
           (subst (λ (i : Inside). Takes i.labels c.take.new.self c.in-Ok.label) w.self-inside-is
           c.take.ensures))
     ]
