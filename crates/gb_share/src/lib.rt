@@ -8,8 +8,6 @@ mod parting;
 mod requester;
 mod sharing;
 mod stop;
-#[cfg(test)]
-mod tests;
 mod text;
 mod threads;
 mod tries;
