@@ -12,7 +12,7 @@ use gb_base::LineReason;
 const LONGEST_LINE: usize = 8192;
 
 /// Tells why a line is bad by its length, or else by its first byte that isn't printable ASCII.
-pub fn plain(line: &[u8]) -> Result<(), LineReason>
+pub fn plain_line(line: &[u8]) -> Result<(), LineReason>
     ensures script { JudgesScript line.now result }
     ensures capture { JudgesCapture line.now result }
     ensures part { JudgesPart line.now result }
