@@ -36,6 +36,7 @@ pub use line_fault::LineFault;
 pub use line_reader::{Line, LineReader};
 pub use lines::first_line;
 pub use made_script::{MADE_LINES, Maker, made};
+pub use plain_line::LONGEST_LINE;
 pub use read::event;
 pub use requesters::parts;
 pub use values::number_word;
