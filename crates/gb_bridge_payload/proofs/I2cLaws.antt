@@ -15,7 +15,7 @@ use Rattle.gb_formats.specs.I2cRecords.{I2cReply, i2c_replies, i2c_reply_kind, i
 use Rattle.gb_formats.specs.I2cRecords.{read_i2c_reply, op_at, op_size, op_written_size, ops_at}
 use Rattle.gb_formats.specs.Records.{PayloadFault, has_read_flag, read_table, row_of}
 use Rattle.gb_payload.specs.Answers.{HasSize, fault_of}
-use Rattle.gb_payload.specs.declared.fault.PayloadFault as code
+use Rattle.gb_payload.specs.declared.payload_fault.PayloadFault as code
 use Rattle.gb_payload.proofs.Places.{whole_is, whole_is_not}
 use Rattle.gb_payload.proofs.Tables.{AreSpelt, means_whole}
 use Rattle.gb_bridge_payload.specs.Conditions.{AreOps, IsI2cAsk}
@@ -123,17 +123,17 @@ i2c_reply_means {B} view kind payload b =
 -- ---- reading a transfer
 
 -- What was read of a payload tells its size: the count, and what the ops behind it write.
-pub record Told (payload front : List ℕ) (count written : ℕ) : Type 0 where
+pub record HasOps (payload front : List ℕ) (count written : ℕ) : Type 0 where
   pub counted : count ≡ little_number 2 payload
   pub ops : take (length front - 2) (drop 2 front) ≡ take (op_size * count) (drop 2 payload)
   pub size : transfer_length payload ≡ 2 + op_size * count + written
 
-pub told : (payload first front : List ℕ) (count written : ℕ) → first ≡ take 2 payload
+pub has_ops : (payload first front : List ℕ) (count written : ℕ) → first ≡ take 2 payload
     → count ≡ little_number 2 first → 2 + op_size * count ≤ length payload
     → front ≡ take (2 + op_size * count) payload
     → written ≡ ops_weight count (take (length front - 2) (drop 2 front))
-    → Told payload front count written
-told payload first front count written is_first counted room is_front weighed =
+    → HasOps payload front count written
+has_ops payload first front count written is_first counted room is_front weighed =
     let count_is : count ≡ little_number 2 payload =
     counted ∙ number_in_front 0 2 payload first is_first in
     let ops_are = behind 2 (op_size * count) payload front room is_front in
@@ -147,7 +147,7 @@ told payload first front count written is_first counted room is_front weighed =
 
 -- a payload of another size is no transfer
 pub transfer_refused : (payload front : List ℕ) (count written : ℕ) (why : code.PayloadFault)
-    → Told payload front count written → HasSize (2 + op_size * count + written) payload (Err why)
+    → HasOps payload front count written → HasSize (2 + op_size * count + written) payload (Err why)
     → read_i2c_transfer (little_number 2 payload) payload ≡ Err (fault_of why)
 transfer_refused payload front count written why t has =
     let size = t.size in
@@ -156,7 +156,8 @@ transfer_refused payload front count written why t has =
     ∙ sym (ap (λ (fault : PayloadFault). Err fault) has.1)
 
 -- a payload of the size is one
-pub transfer_taken : (payload front : List ℕ) (count written : ℕ) → Told payload front count written
+pub transfer_taken : (payload front : List ℕ) (count written : ℕ)
+    → HasOps payload front count written
     → length payload ≡ 2 + op_size * count + written
     → read_i2c_transfer (little_number 2 payload) payload
     ≡ Ok (I2cAsk.Transfer (take (length front - 2) (drop 2 front))

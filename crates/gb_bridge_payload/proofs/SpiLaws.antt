@@ -16,7 +16,7 @@ use Rattle.gb_formats.specs.SpiRecords.{SpiReply, spi_replies, spi_reply_kind, s
 use Rattle.gb_formats.specs.SpiRecords.{read_spi_reply, read_device, name_size, entry_at}
 use Rattle.gb_formats.specs.SpiRecords.{entry_size, entry_written_size, entries_at}
 use Rattle.gb_payload.specs.Answers.{HasSize, fault_of}
-use Rattle.gb_payload.specs.declared.fault.PayloadFault as code
+use Rattle.gb_payload.specs.declared.payload_fault.PayloadFault as code
 use Rattle.gb_payload.proofs.Places.{one_size, whole_is, whole_is_not}
 use Rattle.gb_payload.proofs.Tables.{AreSpelt, means_whole}
 use Rattle.gb_bridge_payload.specs.Conditions.{IsSpiAsk}
@@ -161,17 +161,17 @@ spi_reply_means {B} view kind payload b =
 -- ---- reading a transfer
 
 -- What was read of a payload tells its size: the count, and what the entries behind it write.
-pub record Told (payload front : List ℕ) (count written : ℕ) : Type 0 where
+pub record HasEntries (payload front : List ℕ) (count written : ℕ) : Type 0 where
   pub counted : count ≡ count_in payload
   pub entries : take (length front - 4) (drop 4 front) ≡ take (entry_size * count) (drop 4 payload)
   pub size : transfer_length payload ≡ 4 + entry_size * count + written
 
-pub told : (payload first front : List ℕ) (count written : ℕ) → first ≡ take 4 payload
+pub has_entries : (payload first front : List ℕ) (count written : ℕ) → first ≡ take 4 payload
     → count ≡ little_number 2 (take (length first - 2) (drop 2 first))
     → 4 + entry_size * count ≤ length payload → front ≡ take (4 + entry_size * count) payload
     → written ≡ entries_weight count (take (length front - 4) (drop 4 front))
-    → Told payload front count written
-told payload first front count written is_first counted room is_front weighed =
+    → HasEntries payload front count written
+has_entries payload first front count written is_first counted room is_front weighed =
     let count_is : count ≡ count_in payload =
     counted ∙ ap (little_number 2) (what_follows 2 first)
     ∙ number_in_front 2 2 payload first is_first in
@@ -187,7 +187,7 @@ told payload first front count written is_first counted room is_front weighed =
 
 -- a payload of another size is no transfer
 pub transfer_refused : (payload front : List ℕ) (count written : ℕ) (why : code.PayloadFault)
-    → Told payload front count written
+    → HasEntries payload front count written
     → HasSize (4 + entry_size * count + written) payload (Err why)
     → read_spi_transfer (count_in payload) payload ≡ Err (fault_of why)
 transfer_refused payload front count written why t has =
@@ -197,7 +197,8 @@ transfer_refused payload front count written why t has =
     ∙ sym (ap (λ (fault : PayloadFault). Err fault) has.1)
 
 -- a payload of the size is one
-pub transfer_taken : (payload front : List ℕ) (count written : ℕ) → Told payload front count written
+pub transfer_taken : (payload front : List ℕ) (count written : ℕ)
+    → HasEntries payload front count written
     → length payload ≡ 4 + entry_size * count + written
     → read_spi_transfer (count_in payload) payload
     ≡ Ok (SpiAsk.Transfer (slice_index payload 0) (slice_index payload 1)

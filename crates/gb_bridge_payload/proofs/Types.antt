@@ -6,7 +6,7 @@ use Rattle.gb_base.specs.Bytes.{AreBytes}
 use Rattle.gb_formats.specs.Records.{PayloadFault, Row, read_table, row_of}
 use Rattle.gb_payload.specs.Answers.{Answers}
 use Rattle.gb_payload.specs.Meaning.{Format, Means}
-use Rattle.gb_payload.specs.declared.fault.PayloadFault as code
+use Rattle.gb_payload.specs.declared.payload_fault.PayloadFault as code
 use Rattle.gb_payload.proofs.Places.{same_record}
 use Rattle.gb_payload.proofs.Tables.{AreSpelt, means_by_table}
 

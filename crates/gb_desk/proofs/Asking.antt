@@ -24,8 +24,8 @@ use Rattle.gb_desk.specs.Steps.{ArePlaces, Gives, Knows, Took, gave, mine_after,
 use Rattle.gb_desk.specs.Steps.{taking}
 use Rattle.gb_desk.specs.Tickets.{HasTicket, ticket}
 use Rattle.gb_desk.specs.Turns.{Enters, IsPassSpent, IsReady, with_new, is_broken}
-use Rattle.gb_desk.specs.declared.fault.DeskFault.{DeskFault}
-use Rattle.gb_desk.specs.declared.fault.DeskFault.TheVariants as fault
+use Rattle.gb_desk.specs.declared.desk_fault.DeskFault.{DeskFault}
+use Rattle.gb_desk.specs.declared.desk_fault.DeskFault.TheVariants as fault
 use Rattle.gb_desk.specs.declared.stored.Stored.{Stored}
 use Rattle.gb_desk.specs.declared.ticket.Opened.{Opened}
 use Rattle.gb_desk.specs.declared.ticket.Ticket.{Ticket}

@@ -18,8 +18,8 @@ use Rattle.gb_desk.specs.Steps.{Knows, Opens, opening}
 use Rattle.gb_desk.specs.Tickets.{ticket}
 use Rattle.gb_base.specs.declared.errors.OutOfMemory.{OutOfMemory}
 use Rattle.gb_desk.specs.Turns.{Asked, AsksAs, BarsAs, Breaks, IsReady, with_new, is_broken}
-use Rattle.gb_desk.specs.declared.fault.DeskFault.{DeskFault}
-use Rattle.gb_desk.specs.declared.fault.DeskFault.TheVariants as fault
+use Rattle.gb_desk.specs.declared.desk_fault.DeskFault.{DeskFault}
+use Rattle.gb_desk.specs.declared.desk_fault.DeskFault.TheVariants as fault
 use Rattle.gb_desk.specs.declared.stored.Stored.{Stored}
 use Rattle.gb_desk.specs.declared.ticket.Opened.{Opened}
 use Rattle.gb_desk.specs.declared.view.View.{View}

@@ -6,10 +6,10 @@ use Rattle.gb_base.specs.declared.entry.Entry.{Entry}
 use Rattle.gb_base.specs.declared.event.Event.{Event}
 use Rattle.gb_base.specs.declared.journal.JournalEntry.{JournalEntry}
 use Rattle.gb_base.specs.declared.refusal.Refusal.{Refusal}
-use Rattle.gb_desk.specs.declared.fault.Busy.{Busy}
-use Rattle.gb_desk.specs.declared.fault.DeskFault.{DeskFault}
-use Rattle.gb_desk.specs.declared.fault.DeskFault.TheVariants as fault
-use Rattle.gb_desk.specs.declared.fault.PassSpent.{PassSpent}
+use Rattle.gb_desk.specs.declared.desk_fault.Busy.{Busy}
+use Rattle.gb_desk.specs.declared.desk_fault.DeskFault.{DeskFault}
+use Rattle.gb_desk.specs.declared.desk_fault.DeskFault.TheVariants as fault
+use Rattle.gb_desk.specs.declared.desk_fault.PassSpent.{PassSpent}
 use Rattle.gb_desk.specs.declared.slots.Told.{Told}
 use Rattle.gb_desk.specs.declared.ticket.Opened.{Opened}
 use Rattle.gb_desk.specs.declared.ticket.Ticket.{Ticket}

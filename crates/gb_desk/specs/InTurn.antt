@@ -9,8 +9,8 @@ use Rattle.gb_desk.specs.Steps.{IsClear, IsHeld, Knows, opening, taking}
 use Rattle.gb_desk.specs.Tickets.{HasTicket, held}
 use Rattle.gb_base.specs.declared.errors.OutOfMemory.{OutOfMemory}
 use Rattle.gb_desk.specs.Turns.{Asked, Breaks, IsPassSpent, IsReady, IsSpent, is_broken}
-use Rattle.gb_desk.specs.declared.fault.DeskFault.{DeskFault}
-use Rattle.gb_desk.specs.declared.fault.DeskFault.TheVariants as fault
+use Rattle.gb_desk.specs.declared.desk_fault.DeskFault.{DeskFault}
+use Rattle.gb_desk.specs.declared.desk_fault.DeskFault.TheVariants as fault
 use Rattle.gb_desk.specs.declared.slots.Slot.{Slot}
 use Rattle.gb_desk.specs.declared.stored.Stored.{Stored}
 use Rattle.gb_desk.specs.declared.ticket.Opened.{Opened}

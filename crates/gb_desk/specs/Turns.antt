@@ -6,8 +6,8 @@ use Rattle.gb_base.specs.declared.entry.Entry.{Entry}
 use Rattle.gb_base.specs.declared.errors.OutOfMemory.{OutOfMemory}
 use Rattle.gb_base.specs.declared.event.Event.{Event}
 use Rattle.gb_base.specs.declared.journal.JournalEntry.{JournalEntry}
-use Rattle.gb_desk.specs.declared.fault.DeskFault.{DeskFault}
-use Rattle.gb_desk.specs.declared.fault.DeskFault.TheVariants as fault
+use Rattle.gb_desk.specs.declared.desk_fault.DeskFault.{DeskFault}
+use Rattle.gb_desk.specs.declared.desk_fault.DeskFault.TheVariants as fault
 use Rattle.gb_desk.specs.declared.stored.Stored.{Stored}
 use Rattle.gb_desk.specs.Slots.{all_noted, new_slot}
 use Rattle.gb_desk.specs.Tickets.{ticket}

@@ -2,8 +2,8 @@
 #![tactic(auto)]
 
 mod desk;
+mod desk_fault;
 mod events;
-mod fault;
 mod journal;
 mod pass;
 mod seat;
@@ -13,8 +13,8 @@ mod ticket;
 mod view;
 
 pub use desk::Desk;
+pub use desk_fault::{Busy, DeskFault, PassSpent};
 pub use events::asks;
-pub use fault::{Busy, DeskFault, PassSpent};
 pub use journal::{Journal, PastEvent, PastEvents};
 pub use pass::Pass;
 pub use slots::Told;

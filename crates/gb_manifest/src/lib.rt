@@ -9,7 +9,7 @@ mod descriptors;
 mod ids;
 mod listed;
 mod manifest;
-mod plain;
+mod plain_descriptor;
 mod refusal;
 mod rules;
 mod spec;

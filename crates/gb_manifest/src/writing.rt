@@ -11,7 +11,7 @@ ghost use Rattle.gb_manifest.specs.Writes.{unplaced, written};
 
 use crate::declared::Declared;
 use crate::listed::Listed;
-use crate::plain::{append, least_size, put_descriptor};
+use crate::plain_descriptor::{append, least_size, put_descriptor};
 use crate::rules::rules_refusal;
 use crate::spec::{ManifestSpec, StringSpec};
 use crate::undeclared::Undeclared;

@@ -86,7 +86,8 @@ more_good f spec at s h e =
     }
 
 -- from here the text goes on as from another place, with this spec
-pub record Reads (at : ℕ) (f : Front) (ls more : List (List ℕ)) (spec : ManifestSpec) : Type 0 where
+pub record GoesOn (at : ℕ) (f : Front) (ls more : List (List ℕ)) (spec : ManifestSpec)
+    : Type 0 where
   pub at_next : ℕ
   pub next : Front
   pub good : Good next spec
@@ -94,13 +95,13 @@ pub record Reads (at : ℕ) (f : Front) (ls more : List (List ℕ)) (spec : Mani
 
 on : (at : ℕ) (f : Front) (ls : List (List ℕ)) (n : ℕ) (g : Front) (rest more : List (List ℕ))
     (spec : ManifestSpec) → sections_from at f ls ≡ sections_from n g rest
-    → Reads n g rest more spec → Reads at f ls more spec
+    → GoesOn n g rest more spec → GoesOn at f ls more spec
 on at f ls n g rest more spec e r =
     record { at_next = r.at_next; next = r.next; good = r.good; same = e ∙ r.same }
 
 other : (at : ℕ) (f : Front) (ls more : List (List ℕ)) (a b : ManifestSpec) → a ≡ b
-    → Reads at f ls more a → Reads at f ls more b
-other at f ls more a b e r = subst (λ (s : ManifestSpec). Reads at f ls more s) e r
+    → GoesOn at f ls more a → GoesOn at f ls more b
+other at f ls more a b e r = subst (λ (s : ManifestSpec). GoesOn at f ls more s) e r
 
 -- ---- numbers that fit
 
@@ -148,7 +149,7 @@ string_read at f s ls id are =
 
 pub strings_read : (ss : List StringSpec) (at : ℕ) (f : Front) (spec : ManifestSpec)
     (ls : List (List ℕ)) → StringsFit ss → Good f spec
-    → Reads at f (flat_map string_lines ss ++ ls) ls
+    → GoesOn at f (flat_map string_lines ss ++ ls) ls
     (record spec { strings = spec.strings ++ ss })
 strings_read [] at f spec ls fit good =
     other at f ls ls spec (record spec { strings = spec.strings ++ [] })
@@ -209,7 +210,7 @@ bundle_read at f b ls id class =
 
 pub bundles_read : (bs : List BundleSpec) (at : ℕ) (f : Front) (spec : ManifestSpec)
     (ls : List (List ℕ)) → BundlesFit bs → Good f spec
-    → Reads at f (flat_map bundle_lines bs ++ ls) ls
+    → GoesOn at f (flat_map bundle_lines bs ++ ls) ls
     (record spec { bundles = spec.bundles ++ bs })
 bundles_read [] at f spec ls fit good =
     other at f ls ls spec (record spec { bundles = spec.bundles ++ [] })
@@ -279,7 +280,7 @@ cport_read at f c ls id bundle protocol =
 
 pub cports_read : (cs : List CportSpec) (at : ℕ) (f : Front) (spec : ManifestSpec)
     (ls : List (List ℕ)) → CportsFit cs → Good f spec
-    → Reads at f (flat_map cport_lines cs ++ ls) ls
+    → GoesOn at f (flat_map cport_lines cs ++ ls) ls
     (record spec { cports = spec.cports ++ cs })
 cports_read [] at f spec ls fit good =
     other at f ls ls spec (record spec { cports = spec.cports ++ [] })

@@ -13,10 +13,10 @@ use Rattle.gb_manifest.specs.declared.spec.ManifestSpec as code
 use Rattle.gb_mnfs.specs.Answers.{Reads, stop_fault}
 use Rattle.gb_mnfs.specs.Drafts.{Finishes, IsTaken, Stands, Takes}
 use Rattle.gb_mnfs.specs.declared.draft.Draft.{Draft}
-use Rattle.gb_mnfs.specs.declared.fault.LineStop.{LineStop}
-use Rattle.gb_mnfs.specs.declared.fault.LineStop.TheVariants as stop
-use Rattle.gb_mnfs.specs.declared.fault.MnfsFault.{MnfsFault}
-use Rattle.gb_mnfs.specs.declared.fault.MnfsFault.TheVariants as fault
+use Rattle.gb_mnfs.specs.declared.mnfs_fault.LineStop.{LineStop}
+use Rattle.gb_mnfs.specs.declared.mnfs_fault.LineStop.TheVariants as stop
+use Rattle.gb_mnfs.specs.declared.mnfs_fault.MnfsFault.{MnfsFault}
+use Rattle.gb_mnfs.specs.declared.mnfs_fault.MnfsFault.TheVariants as fault
 
 -- What has been read of a text: the draft stands for it, and what is left goes on from it.
 pub record HasRead (text : List ℕ) (at : ℕ) (x : Draft) (left : List ℕ) : Type 0 where

@@ -7,10 +7,10 @@ use Rattle.gb_manifest.specs.Writes.{spec_of}
 use Rattle.gb_manifest.specs.declared.spec.ManifestSpec.{ManifestSpec}
 use Rattle.gb_manifest.specs.declared.writing.WriteFault.{WriteFault}
 use Rattle.gb_manifest.specs.declared.writing.WriteFault.TheVariants as write
-use Rattle.gb_mnfs.specs.declared.fault.LineStop.{LineStop}
-use Rattle.gb_mnfs.specs.declared.fault.LineStop.TheVariants as stop
-use Rattle.gb_mnfs.specs.declared.fault.MnfsFault.{MnfsFault}
-use Rattle.gb_mnfs.specs.declared.fault.MnfsFault.TheVariants as fault
+use Rattle.gb_mnfs.specs.declared.mnfs_fault.LineStop.{LineStop}
+use Rattle.gb_mnfs.specs.declared.mnfs_fault.LineStop.TheVariants as stop
+use Rattle.gb_mnfs.specs.declared.mnfs_fault.MnfsFault.{MnfsFault}
+use Rattle.gb_mnfs.specs.declared.mnfs_fault.MnfsFault.TheVariants as fault
 
 -- the fault of a manifest that isn't written
 abbrev pub unwritten : WriteFault → MnfsFault

@@ -13,10 +13,10 @@ use Rattle.gb_manifest.specs.declared.spec.ManifestSpec.{ManifestSpec}
 use Rattle.gb_mnfs.specs.Sections.{section_of}
 use Rattle.gb_mnfs.specs.declared.draft.Draft.{Draft}
 use Rattle.gb_mnfs.specs.declared.draft.Opened.{Opened}
-use Rattle.gb_mnfs.specs.declared.fault.LineStop.{LineStop}
-use Rattle.gb_mnfs.specs.declared.fault.LineStop.TheVariants as stop
-use Rattle.gb_mnfs.specs.declared.fault.MnfsFault.{MnfsFault}
-use Rattle.gb_mnfs.specs.declared.fault.MnfsFault.TheVariants as fault
+use Rattle.gb_mnfs.specs.declared.mnfs_fault.LineStop.{LineStop}
+use Rattle.gb_mnfs.specs.declared.mnfs_fault.LineStop.TheVariants as stop
+use Rattle.gb_mnfs.specs.declared.mnfs_fault.MnfsFault.{MnfsFault}
+use Rattle.gb_mnfs.specs.declared.mnfs_fault.MnfsFault.TheVariants as fault
 
 abbrev pub opened_of : Opened → source.Opened
 opened_of o = record { line = o.line; section = section_of o.section }

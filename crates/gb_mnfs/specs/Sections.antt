@@ -4,8 +4,8 @@ use Rattle.gb_base.specs.declared.reasons.MnfsReason.{MnfsReason}
 use Rattle.gb_base.specs.declared.reasons.MnfsReason.TheVariants as mnfs
 use Rattle.gb_formats.specs.SourceLines as formats
 use Rattle.gb_formats.specs.SourceValues.{source_number}
-use Rattle.gb_mnfs.specs.declared.fault.LineStop.{LineStop}
-use Rattle.gb_mnfs.specs.declared.fault.LineStop.TheVariants as stop
+use Rattle.gb_mnfs.specs.declared.mnfs_fault.LineStop.{LineStop}
+use Rattle.gb_mnfs.specs.declared.mnfs_fault.LineStop.TheVariants as stop
 use Rattle.gb_mnfs.specs.declared.form.Form.{Form}
 use Rattle.gb_mnfs.specs.declared.form.Form.TheVariants as form
 use Rattle.gb_mnfs.specs.declared.section.Section.{Section}

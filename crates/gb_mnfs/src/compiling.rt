@@ -6,7 +6,7 @@ ghost use Rattle.gb_formats.specs.Source.{IsSource, compile_answer};
 ghost use Rattle.gb_mnfs.specs.Answers.{Compiles, IsMade, OkOrMemory, Reads, stop_fault};
 
 use crate::draft::Draft;
-use crate::fault::{LineStop, MnfsFault};
+use crate::mnfs_fault::{LineStop, MnfsFault};
 use gb_base::Bytes;
 use gb_manifest::{ManifestSpec, write};
 use gb_script::first_line;

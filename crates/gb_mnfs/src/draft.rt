@@ -8,8 +8,8 @@ ghost use Rattle.gb_mnfs.specs.Drafts.{Finishes, Stands, Takes, lacking_or};
 ghost use Rattle.gb_mnfs.specs.Sections.{section_of};
 
 use crate::adding::{add, empty_spec};
-use crate::fault::{LineStop, MnfsFault};
 use crate::form::{Form, form_of};
+use crate::mnfs_fault::{LineStop, MnfsFault};
 use crate::section::Section;
 use gb_base::{MnfsReason, OutOfMemory};
 use gb_manifest::ManifestSpec;

@@ -5,7 +5,7 @@ ghost use Rattle.std.specs.String.{string_bytes};
 ghost use Rattle.gb_formats.specs.SourceTexts.{compile_text, mnfs_reason_text, source_fault_text};
 ghost use Rattle.gb_mnfs.specs.Answers.{fault_of};
 
-use crate::fault::MnfsFault;
+use crate::mnfs_fault::MnfsFault;
 use gb_base::{MnfsReason, OutOfMemory, Text};
 use gb_report::{line_of, put_line, reason_name};
 use std::alloc::Global;

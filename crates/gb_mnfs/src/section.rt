@@ -5,7 +5,7 @@ ghost use Rattle.gb_formats.specs.SourceLines.{bundle_with, cport_with, header_w
 ghost use Rattle.gb_formats.specs.SourceLines.{interface_with, lacks_key, section_with, words_with};
 ghost use Rattle.gb_mnfs.specs.Sections.{GivesSection, MakesSection, Sets, section_of};
 
-use crate::fault::LineStop;
+use crate::mnfs_fault::LineStop;
 use crate::number::byte;
 use crate::string::string;
 use gb_base::{Bytes, MnfsReason};

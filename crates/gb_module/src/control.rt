@@ -10,7 +10,7 @@ ghost use Rattle.gb_formats.specs.Results.{answer_of};
 ghost use Rattle.gb_module.specs.Turning.{changes, wants};
 ghost use Rattle.gb_payload.specs.Views.{control_ask_of, control_reply_of};
 
-use crate::modules::Module;
+use crate::module::Module;
 use crate::turn::Turn;
 use gb_base::{OutOfMemory, Served};
 use gb_bridge_payload::{answered, fault_result, refused};

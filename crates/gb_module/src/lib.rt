@@ -8,12 +8,12 @@ mod declared;
 mod device;
 mod kinds;
 mod loads;
-mod modules;
+mod module;
 mod port;
 mod ports;
 mod stir;
 mod turn;
 
 pub use cport_state::CportState;
-pub use modules::Module;
+pub use module::Module;
 pub use stir::{Stir, StirFault};

@@ -8,7 +8,7 @@ ghost use Rattle.gb_formats.specs.ModuleLoads.{kept_at, loader_at, module_ended,
 ghost use Rattle.gb_formats.specs.ModuleLoads.{module_load, tag_at};
 ghost use Rattle.gb_module.specs.Loading.{EndsAs, Runs, RunsOn, follows, load_refusal, refusal_in};
 
-use crate::modules::Module;
+use crate::module::Module;
 use gb_base::{Next, OutOfMemory, Outcome, OwnAsk, Refusal, Tag};
 
 impl Module {

@@ -68,7 +68,7 @@ fn nothing_is_known_first(rt: HostRuntime) {
     assert!(rt; matches!(host.may_connect(2, 1), Err(Refusal::NoInterface)));
     assert!(rt; matches!(host.may_send(2, 0), Err(Refusal::NoInterface)));
     assert!(rt; host.interface(2).is_none());
-    assert!(rt; host.stage(2).is_none());
+    assert!(rt; host.state(2).is_none());
     fails(&rt, &mut host, SequenceStep::EnableVsys);
     fails(&rt, &mut host, SequenceStep::CreateControl);
 }

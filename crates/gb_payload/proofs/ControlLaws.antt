@@ -11,7 +11,7 @@ use Rattle.gb_formats.specs.Records.{read_table, row_of}
 use Rattle.gb_payload.specs.Answers.{Answers}
 use Rattle.gb_payload.specs.Meaning.{Means}
 use Rattle.gb_payload.specs.Protocols as formats
-use Rattle.gb_payload.specs.declared.fault.PayloadFault.{PayloadFault}
+use Rattle.gb_payload.specs.declared.payload_fault.PayloadFault.{PayloadFault}
 use Rattle.gb_payload.proofs.Places.{same_record}
 use Rattle.gb_payload.proofs.Tables.{AreSpelt, is_row, means_by_table}
 

@@ -7,8 +7,8 @@ use Rattle.gb_base.specs.Bytes.{AreBytes}
 use Rattle.gb_formats.specs.Records.{Row, fields_of, read_row, read_table, row_of, whole}
 use Rattle.gb_payload.specs.Answers.{Answers}
 use Rattle.gb_payload.specs.Meaning.{Format, Means}
-use Rattle.gb_payload.specs.declared.fault.PayloadFault.{PayloadFault}
-use Rattle.gb_payload.specs.declared.fault.PayloadFault.TheVariants as fault
+use Rattle.gb_payload.specs.declared.payload_fault.PayloadFault.{PayloadFault}
+use Rattle.gb_payload.specs.declared.payload_fault.PayloadFault.TheVariants as fault
 use Rattle.gb_payload.proofs.Spelt.{are_widths, fields_spelt, spelt_fields}
 use Rattle.gb_payload.proofs.Places.{IsSize, ReadsBy, is_place, one_size, whole_known, whole_made}
 use Rattle.gb_payload.proofs.Places.{whole_parts, whole_size}

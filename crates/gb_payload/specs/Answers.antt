@@ -1,8 +1,8 @@
 -- What reading a payload answers.
 use Rattle.std.specs.Prelude.{◌≡◌, ◌≢◌, ℕ, ◌+◌, min, Result, Ok, Err, List, length}
 use Rattle.gb_formats.specs.Records as formats
-use Rattle.gb_payload.specs.declared.fault.PayloadFault.{PayloadFault}
-use Rattle.gb_payload.specs.declared.fault.PayloadFault.TheVariants as fault
+use Rattle.gb_payload.specs.declared.payload_fault.PayloadFault.{PayloadFault}
+use Rattle.gb_payload.specs.declared.payload_fault.PayloadFault.TheVariants as fault
 use Rattle.gb_payload.specs.declared.reading.Fields.{Fields}
 
 -- the fault that a value of the code stands for

@@ -3,8 +3,8 @@
 use Rattle.std.specs.Prelude.{◌≡◌, ◌≢◌, ◌<◌, ◌≤◌, ℕ, Result, Ok, Err, List, ◌++◌, length, take}
 use Rattle.gb_base.specs.Bytes.{AreBytes}
 use Rattle.gb_formats.specs.Records as formats
-use Rattle.gb_payload.specs.declared.fault.PayloadFault.{PayloadFault}
-use Rattle.gb_payload.specs.declared.fault.PayloadFault.TheVariants as fault
+use Rattle.gb_payload.specs.declared.payload_fault.PayloadFault.{PayloadFault}
+use Rattle.gb_payload.specs.declared.payload_fault.PayloadFault.TheVariants as fault
 
 -- The records of one direction of a protocol: which one a payload of a type is, and the type and
 -- the payload of each.

@@ -4,8 +4,8 @@
 mod control_ask;
 pub mod control_kinds;
 mod control_reply;
-mod fault;
 pub mod first;
+mod payload_fault;
 pub mod protocols;
 mod reading;
 mod results;
@@ -16,7 +16,7 @@ mod writing;
 
 pub use control_ask::ControlAsk;
 pub use control_reply::ControlReply;
-pub use fault::PayloadFault;
+pub use payload_fault::PayloadFault;
 pub use reading::{Fields, mismatch};
 pub use results::{INVALID, NONEXISTENT, OVERFLOW, PROTOCOL_BAD, RETRY, SUCCESS, fault_result};
 pub use svc_ask::SvcAsk;

@@ -7,8 +7,8 @@ use Rattle.gb_base.specs.declared.parts.Parts.{Parts}
 use Rattle.gb_formats.specs.Parts as formats
 use Rattle.gb_formats.specs.Parts.{most_requesters}
 use Rattle.gb_formats.specs.ValidEvents.{IsValid}
-use Rattle.gb_script.specs.declared.fault.LineFault.{LineFault}
-use Rattle.gb_script.specs.declared.fault.LineFault.TheVariants as fault
+use Rattle.gb_script.specs.declared.line_fault.LineFault.{LineFault}
+use Rattle.gb_script.specs.declared.line_fault.LineFault.TheVariants as fault
 use Rattle.gb_script.specs.declared.requesters.Part.{Part}
 use Rattle.gb_script.specs.declared.requesters.Part.TheVariants as part
 

@@ -7,8 +7,8 @@ use Rattle.gb_base.specs.declared.event.Kind.{Kind}
 use Rattle.gb_base.specs.declared.reasons.LineReason.{LineReason}
 use Rattle.gb_formats.specs.Grammar.{Said, or_more_kinds}
 use Rattle.gb_formats.specs.Said.{Rest, each_word, next_cport, next_word}
-use Rattle.gb_script.specs.declared.fault.LineFault.{LineFault}
-use Rattle.gb_script.specs.declared.fault.LineFault.TheVariants as fault
+use Rattle.gb_script.specs.declared.line_fault.LineFault.{LineFault}
+use Rattle.gb_script.specs.declared.line_fault.LineFault.TheVariants as fault
 
 -- The answer is what the line says. Where memory is wanting it tells nothing.
 abbrev pub Tells : Result (Option Event) LineFault → Said → Type 0

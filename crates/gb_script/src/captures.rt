@@ -5,7 +5,7 @@ ghost use Rattle.gb_formats.specs.Captures.{line_holds, way_word};
 ghost use Rattle.gb_script.specs.Captures.{held_of};
 
 use crate::hex_words::hex_into;
-use crate::plain::plain;
+use crate::plain_line::plain_line;
 use crate::words::{first_word, is};
 use gb_base::LineReason;
 
@@ -19,7 +19,7 @@ pub fn captured_bytes<'a>(
     ensures held { held_of result ≡ line_holds line.now }
     ensures short { IfOk result (λ held. IfSome held (λ h. length h.1.now ≤ 4096)) }
 {
-    plain(line)?;
+    plain_line(line)?;
     let Some((first, rest)) = first_word(line) else {
         return Ok(None);
     };

@@ -13,6 +13,7 @@ use crate::bridges::{Protocol, begins_with_at, request};
 use crate::rest::Rest;
 use crate::words::is;
 use gb_base::{BridgeAsk, Event};
+use gb_bridge_payload::gpio_kinds;
 use std::alloc::Global;
 
 /// `gpio @x I C` and what is asked, or `gpio I C level L V`.
@@ -44,35 +45,35 @@ fn outside_level(rest: &Rest<'_>) -> Result<Event, LineFault>
     })
 }
 
-/// What a GPIO line asks. The types are those of Linux's greybus_protocols.h.
+/// What a GPIO line asks.
 pub fn asked(rest: &Rest<'_>) -> Result<BridgeAsk, LineFault>
     ensures { AsksFor gpio_asking rest.now result }
 {
     let (word, behind) = rest.next()?;
     if is(word, "count") {
-        of_none(&behind, 0x02)
+        of_none(&behind, gpio_kinds::LINE_COUNT)
     } else if is(word, "activate") {
-        of_line(&behind, 0x03)
+        of_line(&behind, gpio_kinds::ACTIVATE)
     } else if is(word, "deactivate") {
-        of_line(&behind, 0x04)
+        of_line(&behind, gpio_kinds::DEACTIVATE)
     } else if is(word, "direction") {
-        of_line(&behind, 0x05)
+        of_line(&behind, gpio_kinds::GET_DIRECTION)
     } else if is(word, "in") {
-        of_line(&behind, 0x06)
+        of_line(&behind, gpio_kinds::DIRECTION_IN)
     } else if is(word, "out") {
-        of_byte(&behind, 0x07)
+        of_byte(&behind, gpio_kinds::DIRECTION_OUT)
     } else if is(word, "get") {
-        of_line(&behind, 0x08)
+        of_line(&behind, gpio_kinds::GET_VALUE)
     } else if is(word, "set") {
-        of_byte(&behind, 0x09)
+        of_byte(&behind, gpio_kinds::SET_VALUE)
     } else if is(word, "debounce") {
-        of_two_bytes(&behind, 0x0a)
+        of_two_bytes(&behind, gpio_kinds::SET_DEBOUNCE)
     } else if is(word, "irq") {
-        of_byte(&behind, 0x0b)
+        of_byte(&behind, gpio_kinds::IRQ_TYPE)
     } else if is(word, "mask") {
-        of_line(&behind, 0x0c)
+        of_line(&behind, gpio_kinds::IRQ_MASK)
     } else if is(word, "unmask") {
-        of_line(&behind, 0x0d)
+        of_line(&behind, gpio_kinds::IRQ_UNMASK)
     } else {
         Err(LineFault::Bad(rest.bad_word()))
     }

@@ -3,14 +3,12 @@
 ghost use Rattle.std.specs.Prelude.{◌≡◌, ◌≤◌, [], ◌+◌, ◌++◌, ℕ, List, IfOk, ◌==◌, length, take};
 ghost use Rattle.gb_formats.specs.Lines.{without_cr};
 
+use crate::plain_line::LONGEST_LINE;
 use gb_base::OutOfMemory;
 use std::alloc::Global;
 
 /// How many bytes are kept of a line: one more than its text may have, for a CR.
-const KEPT: usize = 8_193;
-
-/// How many bytes of a line are handed out.
-const LONGEST_LINE: usize = 8_192;
+const KEPT: usize = LONGEST_LINE + 1;
 
 /// The first 8,193 bytes of a line, and how many bytes the line has.
 #[derive(Drop)]

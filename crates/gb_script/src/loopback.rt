@@ -7,9 +7,10 @@ use crate::LineFault;
 use crate::rest::Rest;
 use crate::words::is;
 use gb_base::BridgeAsk;
+use gb_bridge_payload::loopback_kinds;
 use std::alloc::Global;
 
-/// What a Loopback line asks. The types are those of Linux's greybus_protocols.h.
+/// What a Loopback line asks.
 pub fn asked(alloc: Global, rest: &Rest<'_>) -> Result<BridgeAsk, LineFault>
     ensures { AsksFor loopback_asking rest.now result }
 {
@@ -18,9 +19,9 @@ pub fn asked(alloc: Global, rest: &Rest<'_>) -> Result<BridgeAsk, LineFault>
         behind.end()?;
         Ok(BridgeAsk::LoopPing)
     } else if is(word, "transfer") {
-        of_bytes(alloc, &behind, 0x03)
+        of_bytes(alloc, &behind, loopback_kinds::TRANSFER)
     } else if is(word, "sink") {
-        of_bytes(alloc, &behind, 0x04)
+        of_bytes(alloc, &behind, loopback_kinds::SINK)
     } else {
         Err(LineFault::Bad(rest.bad_word()))
     }

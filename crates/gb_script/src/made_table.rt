@@ -9,6 +9,7 @@ ghost use Rattle.gb_formats.specs.Made.{made_by, made_name};
 
 use arrayvec::ArrayString;
 use gb_base::{BridgeAsk, Bytes, End, Event, I2cOp, I2cOps, Name, OutOfMemory, Word};
+use gb_bridge_payload::gpio_kinds::ACTIVATE;
 use std::alloc::Global;
 
 /// The address of the memory of the I2C adapter.
@@ -76,7 +77,7 @@ fn activate(k: u32, intf: u8, value: u8) -> Event
         intf,
         cport: 1,
         ask: BridgeAsk::Gpio {
-            kind: 0x03,
+            kind: ACTIVATE,
             line: value,
             value: 0,
         },

@@ -5,7 +5,7 @@ ghost use Rattle.gb_script.specs.Tells.{Tells};
 
 use crate::LineFault;
 use crate::forms::form;
-use crate::plain::plain;
+use crate::plain_line::plain_line;
 use crate::rest::Rest;
 use crate::words::first_word;
 use gb_base::Event;
@@ -15,7 +15,7 @@ use std::alloc::Global;
 pub fn event(alloc: Global, line: &[u8], who: u8) -> Result<Option<Event>, LineFault>
     ensures { Tells result (judged who line.now) }
 {
-    plain(line)?;
+    plain_line(line)?;
     let Some((first, rest)) = first_word(line) else {
         return Ok(None);
     };

@@ -8,7 +8,7 @@ ghost use Rattle.gb_script.specs.PartLines.{AreRising, AreValidLines, TellsHeadi
 
 use crate::LineFault;
 use crate::lines::first_line;
-use crate::plain::plain;
+use crate::plain_line::plain_line;
 use crate::read::event;
 use crate::values::number_word;
 use crate::words::{first_word, is};
@@ -112,7 +112,7 @@ fn line_part(alloc: Global, line: &[u8], who: u8) -> Result<Part, LineFault>
     ensures { TellsPart result (part_of who line.now) }
 {
     if let Some(rest) = behind_heading(line) {
-        plain(line)?;
+        plain_line(line)?;
         return Ok(Part::Heading(heading(rest, who)?));
     }
     match event(alloc, line, who)? {

@@ -14,10 +14,8 @@ use crate::LineFault;
 use crate::rest::Rest;
 use crate::words::is;
 use gb_base::{Bytes, End, Event, Name};
+use gb_payload::svc_kinds::PING;
 use std::alloc::Global;
-
-/// Type PING of the SVC protocol.
-const TYPE_PING: u8 = 0x13;
 
 /// The timeout in milliseconds of a request that states none.
 const DEFAULT_TIMEOUT: u32 = 1000;
@@ -55,7 +53,7 @@ fn send_ping(alloc: Global, name: Name, rest: &Rest<'_>) -> Result<Event, LineFa
     Ok(Event::Send {
         name,
         to: End::Svc,
-        kind: TYPE_PING,
+        kind: PING,
         payload: Bytes::new(alloc),
         timeout,
     })

@@ -11,6 +11,7 @@ use crate::bridges::{Protocol, begins_with_at, request};
 use crate::rest::Rest;
 use crate::words::is;
 use gb_base::{BridgeAsk, Event};
+use gb_bridge_payload::uart_kinds;
 use std::alloc::Global;
 
 /// `uart @x I C` and what is asked, or `uart I C state V`.
@@ -40,7 +41,7 @@ fn serial_state(rest: &Rest<'_>) -> Result<Event, LineFault>
     })
 }
 
-/// What a UART line asks. The types are those of Linux's greybus_protocols.h.
+/// What a UART line asks.
 pub fn asked(alloc: Global, rest: &Rest<'_>) -> Result<BridgeAsk, LineFault>
     ensures { AsksFor uart_asking rest.now result }
 {
@@ -50,11 +51,11 @@ pub fn asked(alloc: Global, rest: &Rest<'_>) -> Result<BridgeAsk, LineFault>
     } else if is(word, "coding") {
         coding(&behind)
     } else if is(word, "control") {
-        of_byte(&behind, 0x05)
+        of_byte(&behind, uart_kinds::SET_CONTROL_LINE_STATE)
     } else if is(word, "break") {
-        of_byte(&behind, 0x06)
+        of_byte(&behind, uart_kinds::SEND_BREAK)
     } else if is(word, "flush") {
-        of_byte(&behind, 0x09)
+        of_byte(&behind, uart_kinds::FLUSH_FIFOS)
     } else {
         Err(LineFault::Bad(rest.bad_word()))
     }

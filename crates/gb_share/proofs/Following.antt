@@ -12,8 +12,8 @@ use Rattle.gb_base.specs.declared.name.Name.{Name}
 use Rattle.gb_base.specs.declared.refusal.Refusal.{Refusal}
 use Rattle.gb_desk.specs.Calls.{CallsAs, Entered, IsTicketOf, OfState}
 use Rattle.gb_desk.specs.Turns.{entry_of}
-use Rattle.gb_desk.specs.declared.fault.DeskFault.{DeskFault}
-use Rattle.gb_desk.specs.declared.fault.DeskFault.TheVariants as fault
+use Rattle.gb_desk.specs.declared.desk_fault.DeskFault.{DeskFault}
+use Rattle.gb_desk.specs.declared.desk_fault.DeskFault.TheVariants as fault
 use Rattle.gb_desk.specs.declared.ticket.Ticket.{Ticket}
 use Rattle.gb_desk.specs.declared.view.View.{View}
 use Rattle.gb_formats.specs.ValidEvents.{IsValid}

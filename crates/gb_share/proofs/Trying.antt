@@ -4,8 +4,8 @@ use Rattle.std.proofs.Common.{ap, ◌∙◌, subst, arith}
 use Rattle.std.proofs.lemmas.List.{append-nil}
 use Rattle.gb_base.specs.declared.entry.Entry.{Entry}
 use Rattle.gb_base.specs.declared.event.Event.{Event}
-use Rattle.gb_desk.specs.declared.fault.DeskFault.{DeskFault}
-use Rattle.gb_desk.specs.declared.fault.DeskFault.TheVariants as fault
+use Rattle.gb_desk.specs.declared.desk_fault.DeskFault.{DeskFault}
+use Rattle.gb_desk.specs.declared.desk_fault.DeskFault.TheVariants as fault
 use Rattle.gb_desk.specs.declared.view.View.{View}
 use Rattle.gb_share.proofs.Places.{longer_length}
 use Rattle.gb_share.proofs.Teams.{longer_both}

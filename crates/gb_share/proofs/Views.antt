@@ -11,8 +11,8 @@ use Rattle.gb_base.specs.declared.journal.JournalEntry.{JournalEntry}
 use Rattle.gb_desk.specs.Calls.{AsksAs, CallsAs, Closes, Entered, JoinedTo, MetAnother}
 use Rattle.gb_desk.specs.Calls.{SawFull, SawPassSpent, SawSpent, WasTold, with_ticket}
 use Rattle.gb_desk.specs.Turns.{entry_of}
-use Rattle.gb_desk.specs.declared.fault.DeskFault.{DeskFault}
-use Rattle.gb_desk.specs.declared.fault.DeskFault.TheVariants as fault
+use Rattle.gb_desk.specs.declared.desk_fault.DeskFault.{DeskFault}
+use Rattle.gb_desk.specs.declared.desk_fault.DeskFault.TheVariants as fault
 use Rattle.gb_desk.specs.declared.ticket.Opened.{Opened}
 use Rattle.gb_desk.specs.declared.ticket.Ticket.{Ticket}
 use Rattle.gb_desk.specs.declared.view.View.{View}

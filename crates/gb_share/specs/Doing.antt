@@ -9,8 +9,8 @@ use Rattle.gb_base.specs.declared.journal.JournalEntry.{JournalEntry}
 use Rattle.gb_desk.specs.Calls.{OfState, OfTaken}
 use Rattle.gb_desk.specs.Rules.{all_parts}
 use Rattle.gb_desk.specs.Slots.{requests_in}
-use Rattle.gb_desk.specs.declared.fault.DeskFault.{DeskFault}
-use Rattle.gb_desk.specs.declared.fault.DeskFault.TheVariants as fault
+use Rattle.gb_desk.specs.declared.desk_fault.DeskFault.{DeskFault}
+use Rattle.gb_desk.specs.declared.desk_fault.DeskFault.TheVariants as fault
 use Rattle.gb_desk.specs.declared.view.View.{View}
 use Rattle.gb_machine.specs.AskingEvents.{asks}
 use Rattle.gb_machine.specs.Shared.{most_requests}

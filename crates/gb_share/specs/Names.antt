@@ -9,8 +9,8 @@ use Rattle.gb_base.specs.declared.name.Name.{Name}
 use Rattle.gb_desk.specs.Calls.{AreTaken, Entered, EnteredWith, OfState, SawFull}
 use Rattle.gb_desk.specs.Rules.{all_parts}
 use Rattle.gb_desk.specs.Tickets.{HasTicket}
-use Rattle.gb_desk.specs.declared.fault.DeskFault.{DeskFault}
-use Rattle.gb_desk.specs.declared.fault.DeskFault.TheVariants as fault
+use Rattle.gb_desk.specs.declared.desk_fault.DeskFault.{DeskFault}
+use Rattle.gb_desk.specs.declared.desk_fault.DeskFault.TheVariants as fault
 use Rattle.gb_desk.specs.declared.ticket.Ticket.{Ticket}
 use Rattle.gb_desk.specs.declared.view.View.{View}
 use Rattle.gb_machine.specs.AskingEvents.{asks}

@@ -11,7 +11,7 @@ use Rattle.std.specs.Ordering.{eq_by_cmp, is_eq}
 use Rattle.gb_base.specs.declared.end.End.{End}
 use Rattle.gb_switch.proofs.Places.{by-false, cmp-other, cmp-own, cmp-same}
 use Rattle.gb_switch.specs.Places.{end_cmp, end_total}
-use Rattle.gb_switch.specs.WaitingEnds.{IsBelow, Marks, ends_of, is_in}
+use Rattle.gb_switch.specs.WaitingEnds.{ComesBefore, Marks, ends_of, is_in}
 
 is-first : (o : Option End) (p : End) → option_eq (eq_by_cmp end_cmp) o (Some p) ≡ true
     → o ≡ Some p
@@ -25,7 +25,7 @@ rest-of None old new some none = none
 rest-of (Some k) old new some none = sym some
 
 -- the others alone are left
-leaves-others : (p : End) (others : List End) → IsBelow (Some p) others
+leaves-others : (p : End) (others : List End) → ComesBefore (Some p) others
     → Marks (p ∷ others) others p false
 leaves-others p others below = record {
   here =
@@ -39,13 +39,13 @@ leaves-others p others below = record {
 
 pub removes-first : (o r : Option End) (p : End) (old new : List End)
     → option_eq (eq_by_cmp end_cmp) o (Some p) ≡ true
-    → IfSome r (λ k. old ≡ k ∷ new) → IfNone r (new ≡ old) → IsBelow o old
+    → IfSome r (λ k. old ≡ k ∷ new) → IfNone r (new ≡ old) → ComesBefore o old
     → Marks (ends_of o old) (ends_of r new) p false
 removes-first o r p old new same some none below =
     let is = is-first o p same in
     subst (λ x. Marks (ends_of x old) (ends_of r new) p false) (sym is)
     (subst (λ ends. Marks (p ∷ old) ends p false) (sym (rest-of r old new some none))
-    (leaves-others p old (subst (λ x. IsBelow x old) is below)))
+    (leaves-others p old (subst (λ x. ComesBefore x old) is below)))
 
 -- no end is one of them, so there is none
 pub none-in : (ends : List End) → ((at : End) → is_in ends at ≡ false) → ends ≡ []
@@ -69,7 +69,7 @@ below-each p (q ∷ others) below = (
     later r true there = refl
     later r false there = there
 
-pub in-order : (o : Option End) (others : List End) → IsBelow o others
+pub in-order : (o : Option End) (others : List End) → ComesBefore o others
     → IsStrictlySortedBy end_cmp others → IsStrictlySortedBy end_cmp (ends_of o others)
 unfolding IsStrictlySortedBy
 in-order None others below sorted = sorted

@@ -28,7 +28,7 @@ abbrev pub ends_of : Option End → List End → List End
 ends_of None others = others
 ends_of (Some first) others = first ∷ others
 
--- an end is below the others, which are absent where there is none
-abbrev pub IsBelow : Option End → List End → Type 0
-IsBelow None others = (at : End) → is_in others at ≡ false
-IsBelow (Some first) others = (at : End) → is_in others at ≡ true → end_cmp first at ≡ Less
+-- an end comes before the others, which are absent where there is none
+abbrev pub ComesBefore : Option End → List End → Type 0
+ComesBefore None others = (at : End) → is_in others at ≡ false
+ComesBefore (Some first) others = (at : End) → is_in others at ≡ true → end_cmp first at ≡ Less

@@ -26,11 +26,11 @@ impl Model for Waiting {
 
     ghost Value = { List End };
 
-    ghost use Rattle.gb_switch.specs.WaitingEnds.{IsBelow, ends_of};
+    ghost use Rattle.gb_switch.specs.WaitingEnds.{ComesBefore, ends_of};
 
     ghost view = { λ w. ends_of w.first w.others.keys };
 
-    ghost invariant = { λ w. IsBelow w.first w.others.keys };
+    ghost invariant = { λ w. ComesBefore w.first w.others.keys };
 }
 
 impl Waiting {

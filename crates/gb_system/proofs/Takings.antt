@@ -53,19 +53,19 @@ module-takes at i c taken mods s p is of same there =
 
 -- it takes by the state of its connection
 pub ap-taken : (around : Around) (at : End) (o : Option ℕ) (k : ℕ)
-    (stage : Option ConnState) (taken : Bool) (x : Host) (y : Bus) (s : State) (p : Place)
+    (state : Option ConnState) (taken : Bool) (x : Host) (y : Bus) (s : State) (p : Place)
     → bus.Stands around y s.bus → host.Stands x s.host
     → ((l : Around) (d : machine.Bus) → bus.Stands l y d
     → o ≡ option_map number_of (place_of at d.connections))
     → o ≡ Some k
     → ((h : machine_host.Host) → host.Stands x h
-    → stage ≡ option_map (λ (l : Link). l.state) (link_of k h))
-    → ((o : Option Link) → stage ≡ option_map (λ (l : Link). l.state) o → taken ≡ link_takes o)
+    → state ≡ option_map (λ (l : Link). l.state) (link_of k h))
+    → ((o : Option Link) → state ≡ option_map (λ (l : Link). l.state) o → taken ≡ link_takes o)
     → place_of at s.bus.connections ≡ Some p → side.Ap ≡ p.side
     → taken ≡ takes p.side p.connection s
-ap-taken around at o k stage taken x y s p stands knows named is stages takes_it there ap_side =
+ap-taken around at o k state taken x y s p stands knows named is states takes_it there ap_side =
     subst (λ (t : Side). taken ≡ takes t p.connection s) ap_side
-    (takes_it (link_of k s.host) (stages s.host knows)
+    (takes_it (link_of k s.host) (states s.host knows)
     ∙ ap (λ j. link_takes (link_of j s.host)) (sym number))
   where
     number : p.connection.number ≡ k

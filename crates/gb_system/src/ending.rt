@@ -126,7 +126,7 @@ impl Parties {
             → MayIdle connection s
             → Does self.new (idles connection) s told.old told.new) }
     {
-        if !drains(self.host.stage(connection)) {
+        if !drains(self.host.state(connection)) {
             return Ok(());
         }
         if !self.bus.idle(connection) {
@@ -138,9 +138,9 @@ impl Parties {
 }
 
 /// Whether a connection to a module in this state drains.
-fn drains(stage: Option<ConnState>) -> bool
-    ensures { (o : Option Link) → stage ≡ option_map (λ l. l.state) o
+fn drains(state: Option<ConnState>) -> bool
+    ensures { (o : Option Link) → state ≡ option_map (λ l. l.state) o
         → result ≡ holds_of (λ l. is_draining l.state) o }
 {
-    matches!(stage, Some(ConnState::Draining))
+    matches!(state, Some(ConnState::Draining))
 }

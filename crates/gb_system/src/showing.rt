@@ -106,7 +106,7 @@ fn connection_text(alloc: Global, host: &Host, known: Known) -> Result<Text, Out
 fn state_in(host: &Host, connection: u64) -> ConnState
     ensures { result ≡ state_of (link_of connection (host_of host.now)) }
 {
-    match host.stage(connection) {
+    match host.state(connection) {
         Some(state) => state,
         None => ConnState::Open,
     }

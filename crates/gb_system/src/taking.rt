@@ -34,7 +34,7 @@ impl Parties {
             → result ≡ takes p.side p.connection s }
     {
         match self.bus.named(at) {
-            Some(connection) => takes_in(self.host.stage(connection)),
+            Some(connection) => takes_in(self.host.state(connection)),
             None => true,
         }
     }
@@ -42,11 +42,11 @@ impl Parties {
 
 /// Whether the application processor takes on a connection to a module in this state. On that of
 /// the supervisory controller, which has none, it always does.
-fn takes_in(stage: Option<ConnState>) -> bool
-    ensures { (o : Option Link) → stage ≡ option_map (λ l. l.state) o → result ≡ link_takes o }
+fn takes_in(state: Option<ConnState>) -> bool
+    ensures { (o : Option Link) → state ≡ option_map (λ l. l.state) o → result ≡ link_takes o }
 {
     matches!(
-        stage,
+        state,
         None | Some(ConnState::Opening | ConnState::Open | ConnState::Draining)
     )
 }

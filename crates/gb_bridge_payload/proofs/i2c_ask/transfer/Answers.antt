@@ -1,12 +1,12 @@
 use Rattle.std.proofs.Common.{rules}
 use Rattle.std.proofs.lemmas.Result.{err_from_is_err_and}
-use Rattle.gb_bridge_payload.proofs.I2cLaws.{told, transfer_has_form, transfer_refused}
+use Rattle.gb_bridge_payload.proofs.I2cLaws.{has_ops, transfer_has_form, transfer_refused}
 use Rattle.gb_bridge_payload.proofs.I2cLaws.{transfer_taken}
 use Rattle.gb_bridge_payload.proofs.i2c_ask.transfer.Goals as goal
 
 pub returns-in_err-of-clause-answer : goal.returns-in_err-of-clause-answer
 returns-in_err-of-clause-answer c =
-    let t = told c.args.payload.now c.in_ok-front.field-0.now c.in_ok-ops.field-0.now
+    let t = has_ops c.args.payload.now c.in_ok-front.field-0.now c.in_ok-ops.field-0.now
     c.read_u16-count.result c.written_by_ops.result c.in_ok-front.ensures.ok.1
     c.read_u16-count.ensures c.in_ok-ops.ensures.ok.0 c.in_ok-ops.ensures.ok.1
     c.written_by_ops.ensures.written in
@@ -16,7 +16,7 @@ returns-in_err-of-clause-answer c =
 
 pub returns-clause-answer : goal.returns-clause-answer
 returns-clause-answer c =
-    let t = told c.args.payload.now c.in_ok-front.field-0.now c.in_ok-ops.field-0.now
+    let t = has_ops c.args.payload.now c.in_ok-front.field-0.now c.in_ok-ops.field-0.now
     c.read_u16-count.result c.written_by_ops.result c.in_ok-front.ensures.ok.1
     c.read_u16-count.ensures c.in_ok-ops.ensures.ok.0 c.in_ok-ops.ensures.ok.1
     c.written_by_ops.ensures.written in

@@ -1,10 +1,10 @@
 use Rattle.std.proofs.lemmas.Result.{err_from_is_err_and}
-use Rattle.gb_bridge_payload.proofs.SpiLaws.{told, transfer_refused, transfer_taken}
+use Rattle.gb_bridge_payload.proofs.SpiLaws.{has_entries, transfer_refused, transfer_taken}
 use Rattle.gb_bridge_payload.proofs.spi_ask.transfer.Goals as goal
 
 pub returns-in_err-of : goal.returns-in_err-of
 returns-in_err-of c =
-    let t = told c.args.payload.now c.in_ok-front.field-0.now c.in_ok-entries.field-0.now
+    let t = has_entries c.args.payload.now c.in_ok-front.field-0.now c.in_ok-entries.field-0.now
     c.read_u16-count.result c.written_by_entries.result c.in_ok-front.ensures.ok.1
     c.read_u16-count.ensures c.in_ok-entries.ensures.ok.0 c.in_ok-entries.ensures.ok.1
     c.written_by_entries.ensures.written in
@@ -14,7 +14,7 @@ returns-in_err-of c =
 
 pub returns : goal.returns
 returns c =
-    let t = told c.args.payload.now c.in_ok-front.field-0.now c.in_ok-entries.field-0.now
+    let t = has_entries c.args.payload.now c.in_ok-front.field-0.now c.in_ok-entries.field-0.now
     c.read_u16-count.result c.written_by_entries.result c.in_ok-front.ensures.ok.1
     c.read_u16-count.ensures c.in_ok-entries.ensures.ok.0 c.in_ok-entries.ensures.ok.1
     c.written_by_entries.ensures.written in

@@ -4,7 +4,7 @@ use Rattle.gb_base.specs.declared.reasons.LineReason.TheVariants as bad
 use Rattle.gb_formats.proofs.JudgedValid.{judged-valid}
 use Rattle.gb_formats.specs.Texts.{entries_text, refusal_line_text}
 use Rattle.gb_script.specs.Tells.{Tells}
-use Rattle.gb_script.specs.declared.fault.LineFault.{LineFault}
+use Rattle.gb_script.specs.declared.line_fault.LineFault.{LineFault}
 use Rattle.gb_session.proofs.Reporting.{long-line, short_line, takes-bad, takes-blank, takes-event}
 use Rattle.gb_session.specs.Reporting.{line_says}
 use Rattle.gb_session.proofs.reporter.Reporter.take.Goals as goal

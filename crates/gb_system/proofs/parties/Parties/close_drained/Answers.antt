@@ -9,7 +9,7 @@ pub returns-then-not-drains : goal.returns-then-not-drains
 returns-then-not-drains c = record {
   step = λ s st may.
       undrained c.args.connection c.drains.result
-      (c.drains.ensures (link_of c.args.connection s.host) (c.stage.ensures.step s.host st.host))
+      (c.drains.ensures (link_of c.args.connection s.host) (c.state.ensures.step s.host st.host))
       c.if-not-drains.true st;
 }
 
@@ -17,7 +17,7 @@ pub returns-then-not-idle : goal.returns-then-not-idle
 returns-then-not-idle c = record {
   step = λ s st may.
       let known = c.drains.ensures (link_of c.args.connection s.host)
-      (c.stage.ensures.step s.host st.host) in
+      (c.state.ensures.step s.host st.host) in
       unidle c.args.connection c.idle.result
       (idle-is c.args.connection s c.idle.result (c.idle.ensures (around_bus [] s) s.bus st.bus)
       (live-drained c.args.connection s c.drains.result known c.if-not-drains.false may))
@@ -28,7 +28,7 @@ pub returns : goal.returns
 returns c = record {
   step = λ s st may.
       let known = c.drains.ensures (link_of c.args.connection s.host)
-      (c.stage.ensures.step s.host st.host) in
+      (c.state.ensures.step s.host st.host) in
       idle-closes c.args.connection c.idle.result
       (idle-is c.args.connection s c.idle.result (c.idle.ensures (around_bus [] s) s.bus st.bus)
       (live-drained c.args.connection s c.drains.result known c.if-not-drains.false may))

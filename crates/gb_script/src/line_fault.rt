@@ -14,7 +14,7 @@ pub enum LineFault {
 }
 
 impl From<OutOfMemory> for LineFault {
-    ghost use Rattle.gb_script.specs.declared.fault.LineFault.{LineFault};
+    ghost use Rattle.gb_script.specs.declared.line_fault.LineFault.{LineFault};
 
     ghost from_gives = { λ e f. f ≡ LineFault.Memory e };
 
@@ -24,7 +24,7 @@ impl From<OutOfMemory> for LineFault {
 }
 
 impl From<LineReason> for LineFault {
-    ghost use Rattle.gb_script.specs.declared.fault.LineFault.{LineFault};
+    ghost use Rattle.gb_script.specs.declared.line_fault.LineFault.{LineFault};
 
     ghost from_gives = { λ e f. f ≡ LineFault.Bad e };
 

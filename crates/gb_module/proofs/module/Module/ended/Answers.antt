@@ -4,7 +4,7 @@ use Rattle.gb_formats.specs.Module.{Module}
 use Rattle.gb_formats.specs.ModuleLoads.{module_ended}
 use Rattle.gb_module.specs.Loading.{EndsAs}
 use Rattle.gb_module.specs.Steps.{with_ports}
-use Rattle.gb_module.proofs.modules.Module.ended.Goals as goal
+use Rattle.gb_module.proofs.module.Module.ended.Goals as goal
 
 pub returns-clause-step : goal.returns-clause-step
 returns-clause-step c =

@@ -1,7 +1,7 @@
 -- No byte before this one is bad.
 use Rattle.std.proofs.Common.{◌≡◌, ◌+◌, drop}
 use Rattle.gb_formats.specs.Script.{bad_place}
-use Rattle.gb_script.proofs.plain.plain.Given as goal
+use Rattle.gb_script.proofs.plain_line.plain_line.Given as goal
 
 abbrev pub invariant-loop-b : goal.invariant-loop-b
 invariant-loop-b l = record {

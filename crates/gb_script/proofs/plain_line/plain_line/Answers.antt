@@ -1,6 +1,6 @@
 use Rattle.std.proofs.Common.{sym, ◌∙◌}
 use Rattle.gb_script.proofs.PlainLines.{by-words}
-use Rattle.gb_script.proofs.plain.plain.Goals as goal
+use Rattle.gb_script.proofs.plain_line.plain_line.Goals as goal
 
 pub returns-then-are_printable-clause-script : goal.returns-then-are_printable-clause-script
 returns-then-are_printable-clause-script c by_words =

@@ -2,7 +2,7 @@
 use Rattle.std.proofs.Common.{◌≡◌, IfOk, ap, subst, ◌∙◌}
 use Rattle.gb_formats.specs.Module.{Module, module_raw}
 use Rattle.gb_module.proofs.KindManifests.{raw-kind}
-use Rattle.gb_module.proofs.modules.Module.of_kind.Goals as goal
+use Rattle.gb_module.proofs.module.Module.of_kind.Goals as goal
 
 pub returns : goal.returns
 returns c =

@@ -9,10 +9,10 @@ ghost use Rattle.gb_script.specs.Plainness.{JudgesCapture, JudgesPart, JudgesScr
 use gb_base::LineReason;
 
 /// How many bytes a line may have.
-const LONGEST_LINE: usize = 8192;
+pub const LONGEST_LINE: usize = 8_192;
 
 /// Tells why a line is bad by its length, or else by its first byte that isn't printable ASCII.
-pub fn plain(line: &[u8]) -> Result<(), LineReason>
+pub fn plain_line(line: &[u8]) -> Result<(), LineReason>
     ensures script { JudgesScript line.now result }
     ensures capture { JudgesCapture line.now result }
     ensures part { JudgesPart line.now result }

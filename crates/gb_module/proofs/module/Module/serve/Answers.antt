@@ -7,7 +7,7 @@ use Rattle.gb_formats.specs.Module.{Module, port_at}
 use Rattle.gb_formats.specs.ModuleSteps.{port_served}
 use Rattle.gb_module.specs.Few.{FewSucceed, device_answer}
 use Rattle.gb_module.specs.Steps.{with_ports}
-use Rattle.gb_module.proofs.modules.Module.serve.Goals as goal
+use Rattle.gb_module.proofs.module.Module.serve.Goals as goal
 
 pub returns-clause-step : goal.returns-clause-step
 returns-clause-step c =

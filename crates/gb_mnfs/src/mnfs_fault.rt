@@ -29,7 +29,7 @@ pub enum MnfsFault {
 
 impl From<OutOfMemory> for MnfsFault {
     ghost use Rattle.std.specs.Prelude.{◌≡◌};
-    ghost use Rattle.gb_mnfs.specs.declared.fault.MnfsFault.TheVariants as fault;
+    ghost use Rattle.gb_mnfs.specs.declared.mnfs_fault.MnfsFault.TheVariants as fault;
 
     ghost from_gives = { λ refused e. e ≡ fault.Memory refused };
 
@@ -65,7 +65,7 @@ pub enum LineStop {
 
 impl From<MnfsReason> for LineStop {
     ghost use Rattle.std.specs.Prelude.{◌≡◌};
-    ghost use Rattle.gb_mnfs.specs.declared.fault.LineStop.TheVariants as stop;
+    ghost use Rattle.gb_mnfs.specs.declared.mnfs_fault.LineStop.TheVariants as stop;
 
     ghost from_gives = { λ reason e. e ≡ stop.Bad reason };
 
@@ -76,7 +76,7 @@ impl From<MnfsReason> for LineStop {
 
 impl From<OutOfMemory> for LineStop {
     ghost use Rattle.std.specs.Prelude.{◌≡◌};
-    ghost use Rattle.gb_mnfs.specs.declared.fault.LineStop.TheVariants as stop;
+    ghost use Rattle.gb_mnfs.specs.declared.mnfs_fault.LineStop.TheVariants as stop;
 
     ghost from_gives = { λ refused e. e ≡ stop.Memory refused };
 

@@ -2,7 +2,7 @@
 use Rattle.std.proofs.Common.{◌≡◌, ◌&&◌, drop}
 use Rattle.std.specs.List.{list_all}
 use Rattle.gb_formats.specs.Script.{is_printable}
-use Rattle.gb_script.proofs.plain.are_printable.Given as goal
+use Rattle.gb_script.proofs.plain_line.are_printable.Given as goal
 
 abbrev pub invariant-loop-b : goal.invariant-loop-b
 invariant-loop-b l =

@@ -1,7 +1,7 @@
 use Rattle.std.proofs.Common.{refl}
 use Rattle.std.proofs.lemmas.Result.{on_ok_weaker}
 use Rattle.gb_manifest.proofs.PlainBytes.{words_bytes}
-use Rattle.gb_manifest.proofs.plain.put_words.Goals as goal
+use Rattle.gb_manifest.proofs.plain_descriptor.put_words.Goals as goal
 
 pub returns : goal.returns
 returns c =

@@ -5,7 +5,7 @@ use Rattle.gb_formats.specs.ModuleSteps.{module_stir}
 use Rattle.gb_module.specs.Steps.{with_ports}
 use Rattle.gb_module.specs.Stirring.{StirsAs}
 use Rattle.gb_module.specs.Views.{stir_of}
-use Rattle.gb_module.proofs.modules.Module.stir.Goals as goal
+use Rattle.gb_module.proofs.module.Module.stir.Goals as goal
 
 pub returns : goal.returns
 returns c =
