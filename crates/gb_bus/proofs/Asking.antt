@@ -36,26 +36,25 @@ labels : (live live' : Live) (ends : Ends) (q : Queues) (k : ℕ) (s : Side) (n 
 labels live live' ends q k s n deadline true label x y kept found now h =
     (same-ok label 0 (Ok label) refl h.0, put-back live live' ends q k x y kept found now h.1)
 labels live live' ends q k s n deadline false label x y kept found now h =
-    side-changes live live' ends q k s x y (λ v u. Begins v u n deadline label) kept found now h
+    side-changes live live' ends q (all_seen q live.entries) k s x y
+    (λ v u. Begins v u n deadline label) kept refl found now h
 
 -- ---- it isn't made
 
-pub asks-not : (live live' : Live) (ends : Ends) (q : Queues) (k : ℕ) (s : Side) (n kind : ℕ)
-    (payload : List ℕ) (deadline : ℕ) (oneway : Bool) (e : SendFault) (x y : code.Connection)
-    → MapsAgree live ends q → get nat_eq live k ≡ Some x
-    → live'.entries ≡ set_value (nat_eq k) live.entries y
+pub asks-not : (live live' : Live) (ends : Ends) (q : Queues) (xs : List Connection) (k : ℕ)
+    (s : Side) (n kind : ℕ) (payload : List ℕ) (deadline : ℕ) (oneway : Bool) (e : SendFault)
+    (x y : code.Connection) → MapsAgree live ends q → all_seen q live.entries ≡ xs
+    → get nat_eq live k ≡ Some x → live'.entries ≡ set_value (nat_eq k) live.entries y
     → AsksOn (alone 0 x) (alone 0 y) s n deadline oneway (Err e)
-    → AsksIn (all_seen q live.entries) (all_seen q live'.entries) k s n kind payload deadline oneway
-    (Err e)
-asks-not live live' ends q k s n kind payload deadline oneway e x y kept found now did =
+    → AsksIn xs (all_seen q live'.entries) k s n kind payload deadline oneway (Err e)
+asks-not live live' ends q xs k s n kind payload deadline oneway e x y kept view found now did =
     by e oneway did
   where
-    there : find (numbered k) (all_seen q live.entries) ≡ Some (seen q k x)
-    there = finds live q (all_seen q live.entries) k (Some x) refl found
+    there : find (numbered k) xs ≡ Some (seen q k x)
+    there = finds live q xs k (Some x) view found
 
     by : (f : SendFault) → (b : Bool) → AsksOn (alone 0 x) (alone 0 y) s n deadline b (Err f)
-        → AsksIn (all_seen q live.entries) (all_seen q live'.entries) k s n kind payload deadline b
-        (Err f)
+        → AsksIn xs (all_seen q live'.entries) k s n kind payload deadline b (Err f)
     by fault.NoLabel true h = absurd (cc h.0)
     by fault.NoLabel false h = (
       record {
@@ -63,7 +62,7 @@ asks-not live live' ends q k s n kind payload deadline oneway e x y kept found n
         needs = refl;
         spent = ap (option_and_then (next_of s)) there ∙ sym (next-seen q k x s) ∙ h.0;
       },
-      put-back live live' ends q k x y kept found now h.1,
+      put-back live live' ends q k x y kept found now h.1 ∙ view,
     )
     by fault.NoConnection true h = absurd (cc h.0)
     by fault.NoConnection false h = absurd h
@@ -114,7 +113,8 @@ somewhere c s at e = by c.wired e
 -- it is lost
 pub asks-lost : (live live' : Live) (ends : Ends) (q : Queues) (xs : List Connection) (k : ℕ)
     (s : Side) (n kind : ℕ) (payload : List ℕ) (deadline : ℕ) (oneway : Bool)
-    (a : ℕ × Option End) (x y : code.Connection) → Made live live' ends q k s n deadline oneway a x y
+    (a : ℕ × Option End) (x y : code.Connection)
+    → Made live live' ends q k s n deadline oneway a x y
     → all_seen q live.entries ≡ xs → a.1 ≡ None
     → Asks xs (all_seen q live'.entries) k s n kind payload deadline oneway a.0 true
 asks-lost live live' ends q xs k s n kind payload deadline oneway a x y m view none =

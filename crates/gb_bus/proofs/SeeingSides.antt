@@ -35,19 +35,20 @@ filled-ops : (q : Queues) (k : ℕ) (s : Side) (ops : Operations) (x : code.Conn
 filled-ops q k side.Ap ops x = refl
 filled-ops q k side.Far ops x = refl
 
-pub side-changes : (live live' : Live) (ends : Ends) (q : Queues) (k : ℕ) (s : Side)
-    (x y : code.Connection) (R : Operations → Operations → Type 0) → MapsAgree live ends q
-    → get nat_eq live k ≡ Some x
+pub side-changes : (live live' : Live) (ends : Ends) (q : Queues) (xs : List Connection) (k : ℕ)
+    (s : Side) (x y : code.Connection) (R : Operations → Operations → Type 0)
+    → MapsAgree live ends q → all_seen q live.entries ≡ xs → get nat_eq live k ≡ Some x
     → live'.entries ≡ set_value (nat_eq k) live.entries y
     → OnSide (alone 0 x) (alone 0 y) s R
-    → ChangesSide (all_seen q live.entries) (all_seen q live'.entries) k s R
-side-changes live live' ends q k s x y R kept found now h = record {
+    → ChangesSide xs (all_seen q live'.entries) k s R
+side-changes live live' ends q xs k s x y R kept view found now h = record {
   connection = seen q k x;
   after = ops_of s (alone 0 y);
-  found = finds live q (all_seen q live.entries) k (Some x) refl found;
+  found = finds live q xs k (Some x) view found;
   did = subst (λ ops. R ops (ops_of s (alone 0 y))) (ops-seen q k x s) h.0;
   rest = changes-one live live' ends q k x y (with_ops s (ops_of s (alone 0 y))) kept found now
-      (ap (filled q k) h.1 ∙ filled-ops q k s (ops_of s (alone 0 y)) x);
+      (ap (filled q k) h.1 ∙ filled-ops q k s (ops_of s (alone 0 y)) x)
+      ∙ ap (at_first (numbered k) (with_ops s (ops_of s (alone 0 y)))) view;
 }
 
 -- one that is put back as it was
@@ -77,45 +78,49 @@ abbrev IsNotOn : Option ℕ → ℕ → Side → Option Connection → Type 0
 IsNotOn number label s o =
     IsNotOf number (option_and_then (λ (c : Connection). holder_of (ops_of s c) label) o)
 
-pub matches : (live live' : Live) (ends : Ends) (q : Queues) (k : ℕ) (s : Side)
-    (number : Option ℕ) (label : ℕ) (r : Matched) (x y : code.Connection) → MapsAgree live ends q
-    → get nat_eq live k ≡ Some x → live'.entries ≡ set_value (nat_eq k) live.entries y
+pub matches : (live live' : Live) (ends : Ends) (q : Queues) (xs : List Connection) (k : ℕ)
+    (s : Side) (number : Option ℕ) (label : ℕ) (r : Matched) (x y : code.Connection)
+    → MapsAgree live ends q → all_seen q live.entries ≡ xs → get nat_eq live k ≡ Some x
+    → live'.entries ≡ set_value (nat_eq k) live.entries y
     → MatchesOn (alone 0 x) (alone 0 y) s number label r
-    → MatchesIn (all_seen q live.entries) (all_seen q live'.entries) k s number label r
-matches live live' ends q k s number label (matched.Open j) x y kept found now did =
-    side-changes live live' ends q k s x y (λ v u. MatchesAs v u number label (matched.Open j))
-    kept found now did
-matches live live' ends q k s number label (matched.Late j) x y kept found now did =
-    side-changes live live' ends q k s x y (λ v u. MatchesAs v u number label (matched.Late j))
-    kept found now did
-matches live live' ends q k s number label matched.Unknown x y kept found now did = (
-  subst (IsNotOn number label s) (sym (finds live q (all_seen q live.entries) k (Some x) refl found))
+    → MatchesIn xs (all_seen q live'.entries) k s number label r
+matches live live' ends q xs k s number label (matched.Open j) x y kept view found now did =
+    side-changes live live' ends q xs k s x y
+    (λ v u. MatchesAs v u number label (matched.Open j)) kept view found now did
+matches live live' ends q xs k s number label (matched.Late j) x y kept view found now did =
+    side-changes live live' ends q xs k s x y
+    (λ v u. MatchesAs v u number label (matched.Late j)) kept view found now did
+matches live live' ends q xs k s number label matched.Unknown x y kept view found now did = (
+  subst (IsNotOn number label s) (sym (finds live q xs k (Some x) view found))
       (subst (λ ops. IsNotOf number (holder_of ops label)) (ops-seen q k x s) did.0.0),
   put-back live live' ends q k x y kept found now
-      (did.1 ∙ ap (λ ops. with_ops s ops (alone 0 x)) did.0.1 ∙ same-side s (alone 0 x)),
+      (did.1 ∙ ap (λ ops. with_ops s ops (alone 0 x)) did.0.1 ∙ same-side s (alone 0 x))
+      ∙ view,
 )
 
-pub matches-none : (live : Live) (q : Queues) (xs : List Connection) (k : ℕ) (s : Side)
-    (number : Option ℕ) (label : ℕ) → all_seen q live.entries ≡ xs → get nat_eq live k ≡ None
-    → MatchesIn xs xs k s number label matched.Unknown
-matches-none live q xs k s number label view none =
-    (subst (IsNotOn number label s) (sym (finds live q xs k None view none)) tt, refl)
+pub matches-none : (live : Live) (q : Queues) {ys : List Connection} (xs : List Connection) (k : ℕ)
+    (s : Side) (number : Option ℕ) (label : ℕ) → all_seen q live.entries ≡ xs
+    → get nat_eq live k ≡ None → ys ≡ xs → MatchesIn xs ys k s number label matched.Unknown
+matches-none live q xs k s number label view none same =
+    (subst (IsNotOn number label s) (sym (finds live q xs k None view none)) tt, same)
 
 -- a response goes by its number or by its identifier alone
-pub responds : (live live' : Live) (ends : Ends) (q : Queues) (k : ℕ) (s : Side)
-    (number label : ℕ) (r : Bool × Matched) (x y : code.Connection) → MapsAgree live ends q
-    → get nat_eq live k ≡ Some x → live'.entries ≡ set_value (nat_eq k) live.entries y
+pub responds : (live live' : Live) (ends : Ends) (q : Queues) (xs : List Connection) (k : ℕ)
+    (s : Side) (number label : ℕ) (r : Bool × Matched) (x y : code.Connection)
+    → MapsAgree live ends q → all_seen q live.entries ≡ xs → get nat_eq live k ≡ Some x
+    → live'.entries ≡ set_value (nat_eq k) live.entries y
     → RespondsOn (alone 0 x) (alone 0 y) s number label r
-    → RespondsIn (all_seen q live.entries) (all_seen q live'.entries) k s number label r
-responds live live' ends q k s number label r x y kept found now did = (
-  did.0 ∙ sym (ap is_soiled (finds live q (all_seen q live.entries) k (Some x) refl found)),
-  matches live live' ends q k s (asked_of r.0 number) label r.1 x y kept found now did.1,
+    → RespondsIn xs (all_seen q live'.entries) k s number label r
+responds live live' ends q xs k s number label r x y kept view found now did = (
+  did.0 ∙ sym (ap is_soiled (finds live q xs k (Some x) view found)),
+  matches live live' ends q xs k s (asked_of r.0 number) label r.1 x y kept view found now did.1,
 )
 
-pub responds-none : (live : Live) (q : Queues) (xs : List Connection) (k : ℕ) (s : Side)
-    (number label : ℕ) → all_seen q live.entries ≡ xs → get nat_eq live k ≡ None
-    → RespondsIn xs xs k s number label (false, matched.Unknown)
-responds-none live q xs k s number label view none = (
+pub responds-none : (live : Live) (q : Queues) {ys : List Connection} (xs : List Connection)
+    (k : ℕ) (s : Side) (number label : ℕ) → all_seen q live.entries ≡ xs
+    → get nat_eq live k ≡ None → ys ≡ xs
+    → RespondsIn xs ys k s number label (false, matched.Unknown)
+responds-none live q xs k s number label view none same = (
   sym (ap is_soiled (finds live q xs k None view none)),
-  matches-none live q xs k s (asked_of false number) label view none,
+  matches-none live q xs k s (asked_of false number) label view none same,
 )

@@ -1,21 +1,14 @@
 -- How live connections are kept: by number, the numbers by end, and what waits by end.
-use Rattle.std.specs.Prelude.{◌≡◌, ◌≢◌, ◌⊎◌, ℕ, true, Option, Some, None, IsSome, List}
-use Rattle.std.specs.Prelude.{if◌then◌else◌, nat_eq, option_and_then, slice_get}
+use Rattle.std.specs.Prelude.{◌≡◌, ◌≢◌, ◌⊎◌, ℕ, true, Option, Some, None, IsSome, List, nat_eq}
 use Rattle.std.specs.HashMap as map
 use Rattle.std.specs.HashMap.{HashMap}
-use Rattle.std.specs.Map.{set_value}
 use Rattle.std.specs.Ordering.{eq_by_cmp}
 use Rattle.std.specs.declared.hash.BuildHasherDefault.{BuildHasherDefault}
 use Rattle.std.specs.declared.hash.FoldHasher.{FoldHasher}
-use Rattle.indexmap.specs.IndexMap.{IndexMap, IsUnique, get, insert_entry}
+use Rattle.indexmap.specs.IndexMap.{IndexMap, IsUnique, get}
 use Rattle.gb_base.specs.declared.end.End.{End}
 use Rattle.gb_base.specs.declared.end.End.TheVariants as end
-use Rattle.gb_base.specs.declared.end.Side.{Side}
-use Rattle.gb_bus.specs.Connection.{Connection}
 use Rattle.gb_bus.specs.Ends.{is_far}
-use Rattle.gb_bus.specs.Parts.{new_connection, side_at}
-use Rattle.gb_bus.specs.Seen.{alone}
-use Rattle.gb_bus.specs.Sides.{toward}
 use Rattle.gb_bus.specs.declared.connection.Connection as code
 use Rattle.gb_bus.specs.declared.queue.Item.{Item}
 use Rattle.gb_switch.specs.Places.{end_cmp}

@@ -8,7 +8,6 @@ use Rattle.gb_bus.proofs.SeeingLive.{adds}
 use Rattle.gb_bus.specs.Connection.{Connection}
 use Rattle.gb_bus.specs.Ends.{is_far}
 use Rattle.gb_bus.specs.Index.{GetsNumber}
-use Rattle.gb_bus.specs.Seen.{all_seen}
 use Rattle.gb_bus.proofs.connections.Connections.add.Goals as goal
 
 pub set-requires-clause-near : goal.set-requires-clause-near
@@ -65,7 +64,3 @@ returns-in-Ok-clause-added c =
     c.args.number c.args.ap c.args.peer c.self.invariant c.self.view_is c.requires.far
     c.requires.free).number
     c.in-Ok.ensures.entries c.in_ok-connection.ensures
-
-pub returns-in-Err-clause-unchanged : goal.returns-in-Err-clause-unchanged
-returns-in-Err-clause-unchanged c =
-    ap (all_seen c.self.inside.queues) c.in-Err.ensures.err ∙ c.self.view_is

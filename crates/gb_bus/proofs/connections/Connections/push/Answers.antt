@@ -12,8 +12,8 @@ use Rattle.gb_bus.proofs.connections.Connections.push.Goals as goal
 
 pub returns-in_default : goal.returns-in_default
 returns-in_default c =
-    nothing-changes c.self.inside.live.map c.self.inside.queues c.args.self.now c.args.k (put
-    c.args.side c.args.item) c.self.view_is (sym c.in_default.ensures)
+    nothing-changes c.self.inside.live.map c.self.inside.queues c.args.self.now c.args.k
+    (put c.args.side c.args.item) c.self.view_is (sym c.in_default.ensures)
 
 pub add_or_lose-requires : goal.add_or_lose-requires
 add_or_lose-requires c =
@@ -36,6 +36,6 @@ pub returns : goal.returns
 returns c =
     adds-toward c.self.inside.live.map c.self.inside.ends c.self.inside.queues
     c.add_or_lose.new.queues c.args.self.now c.args.k c.in-Some.connection.now c.args.side
-    c.args.item c.self.invariant c.self.view_is (sym c.in-Some.ensures) (subst (λ o. AddsAt o
-    c.args.item c.self.inside.queues c.add_or_lose.new.queues) c.toward.ensures
-    c.in_ok-add_or_lose.ensures.added)
+    c.args.item c.self.invariant c.self.view_is (sym c.in-Some.ensures)
+    (subst (λ o. AddsAt o c.args.item c.self.inside.queues c.add_or_lose.new.queues)
+    c.toward.ensures c.in_ok-add_or_lose.ensures.added)

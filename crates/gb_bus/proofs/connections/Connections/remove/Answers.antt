@@ -15,8 +15,8 @@ pub returns-in_default : goal.returns-in_default
 returns-in_default c =
     ap (all_seen c.self.inside.queues) c.in_default.ensures.unchanged
     ∙ c.self.view_is
-    ∙ removes-none c.self.inside.live.map c.self.inside.queues c.args.self.now c.args.k c.self.view_is
-    (sym c.in_default.ensures.value)
+    ∙ removes-none c.self.inside.live.map c.self.inside.queues c.args.self.now c.args.k
+    c.self.view_is (sym c.in_default.ensures.value)
 
 pub invariant_of-self-2 : goal.invariant_of-self-2
 invariant_of-self-2 c =

@@ -6,7 +6,11 @@ use Rattle.gb_bus.proofs.numbered.Numbered.get_mut.Goals as goal
 
 pub returns-in_err-place : goal.returns-in_err-place
 returns-in_err-place c = (
-  (ap ghost_name_of (sym c.from_residual.ensures), λ y. set-none c.args.k y c.args.self.now.map.entries c.in_err-place.ensures, refl),
+  (
+    ap ghost_name_of (sym c.from_residual.ensures),
+    λ y. set-none c.args.k y c.args.self.now.map.entries c.in_err-place.ensures,
+    refl,
+  ),
   record {
     changes = tt;
     value = ap option_copied_mut c.from_residual.ensures ∙ sym c.in_err-place.ensures;
