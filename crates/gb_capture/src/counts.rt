@@ -5,10 +5,7 @@ ghost use Rattle.gb_capture.specs.Audits.{heard_at, is_asking, one_if};
 ghost use Rattle.gb_formats.specs.Audit.{is_response};
 ghost use Rattle.gb_wire.specs.MessageOf.{message_of};
 
-use gb_wire::Message;
-
-/// The least type of a response: this, and the type of its request.
-pub const RESPONSE: u8 = 0x80;
+use gb_wire::{Message, RESPONSE};
 
 /// Whether a message is a response.
 pub fn is_response(m: &Message<'_>) -> bool

@@ -7,10 +7,9 @@ ghost use Rattle.gb_formats.specs.Audit.{finding_of};
 ghost use Rattle.gb_formats.specs.Captures.{Heard};
 ghost use Rattle.gb_wire.specs.MessageOf.{message_of};
 
-use crate::counts::RESPONSE;
 use crate::table::{Asked, Table};
 use gb_base::Finding;
-use gb_wire::Message;
+use gb_wire::{Message, RESPONSE};
 
 /// How the next message breaks the pairing, if it does. The table stands for it from now on.
 pub fn hear(table: &mut Table, line: u32, from_ap: bool, m: &Message<'_>) -> Option<Finding>

@@ -11,14 +11,14 @@ mod rig;
 
 use gb_base::{BridgeAsk, Bytes, Event, Name, OutOfMemory, Word};
 use gb_manifest::{Manifest, check};
-use gb_wire::decode;
+use gb_wire::{RESPONSE, decode};
 use rig::Rig;
 use std::alloc::Global;
 use std::io;
 use std::process::ExitCode;
 
 /// A response of type 82 with identifier 1, result 00 and the payload 07.
-const RESPONSE: [u8; 9] = [9, 0, 1, 0, 0x82, 0, 0, 0, 7];
+const ANSWER: [u8; 9] = [9, 0, 1, 0, 0x82, 0, 0, 0, 7];
 
 /// A manifest of an interface, bundle 1 of class 0a, and in it CPort 3 with protocol 02, GPIO.
 const MANIFEST: [u8; 28] = [
@@ -41,7 +41,7 @@ fn main(rt: HostRuntime) -> ExitCode {
 
 /// Writes what the message and the manifest are, and the report.
 fn tell(rt: &HostRuntime, rig: &Rig) -> io::Result<()> {
-    let answers = is_success(&RESPONSE, 1);
+    let answers = is_success(&ANSWER, 1);
     let protocol = protocol(&MANIFEST, 3);
     println!(rt; "answers request 1 with success: {answers}")?;
     println!(rt; "protocol of CPort 3: {protocol:?}")?;
@@ -53,7 +53,7 @@ fn is_success(bytes: &[u8], id: u16) -> bool
     ensures { result ≡ begins_with_success id bytes.now }
 {
     match decode(bytes) {
-        Ok((m, _size)) => m.id == id && m.kind >= 128 && m.result == 0,
+        Ok((m, _size)) => m.id == id && m.kind >= RESPONSE && m.result == 0,
         Err(_) => false,
     }
 }

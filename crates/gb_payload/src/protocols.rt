@@ -18,5 +18,8 @@ pub const SPI: u8 = 0x0b;
 /// The protocol of a loopback device.
 pub const LOOPBACK: u8 = 0x11;
 
+/// The protocol of the supervisory controller.
+pub const SVC: u8 = 0x14;
+
 /// The protocol of a firmware device, which downloads images.
 pub const FIRMWARE: u8 = 0x17;

@@ -7,7 +7,7 @@ ghost use Rattle.gb_wire.specs.MessageOf.{message_of};
 
 use gb_base::{Bytes, OutOfMemory};
 use gb_bridge_payload::MOST_PAYLOAD;
-use gb_wire::{Message, encode_into};
+use gb_wire::{HEADER, Message, RESPONSE, encode_into};
 use std::alloc::Global;
 
 /// The most bytes that a payload has in a message that takes no memory of its own.
@@ -17,7 +17,7 @@ const SHORT_PAYLOAD: usize = 8;
 pub fn size_of(payload: &[u8]) -> u16
     ensures { length payload.now ≤ most_payload → result ≡ message_size payload.now }
 {
-    8 + within(payload).len() as u16
+    HEADER as u16 + within(payload).len() as u16
 }
 
 /// The bytes of a request with a payload of at most 2,040 bytes.
@@ -41,7 +41,7 @@ pub fn request_bytes(
     )
 }
 
-/// The bytes of the response to a request of a type below 0x80, with a payload of at
+/// The bytes of the response to a request of a type below `RESPONSE`, with a payload of at
 /// most 2,040 bytes.
 pub fn response_bytes(
     alloc: Global,
@@ -57,7 +57,7 @@ pub fn response_bytes(
         alloc,
         &Message {
             id: label,
-            kind: kind % 0x80 + 0x80,
+            kind: kind % RESPONSE + RESPONSE,
             result: code,
             payload: within(payload),
         },
@@ -74,7 +74,7 @@ fn message_bytes(alloc: Global, m: &Message<'_>) -> Result<Bytes, OutOfMemory>
     if m.payload.len() <= SHORT_PAYLOAD {
         return short_message(alloc, m);
     }
-    let mut bytes = vec![in alloc; 0u8; 8 + m.payload.len()]?;
+    let mut bytes = vec![in alloc; 0u8; HEADER + m.payload.len()]?;
     encode_into(m, &mut bytes).unwrap();
     Ok(Bytes::from_vec(bytes))
 }
@@ -86,7 +86,7 @@ fn short_message(alloc: Global, m: &Message<'_>) -> Result<Bytes, OutOfMemory>
     requires request { m.now.kind < 128 → m.now.result ≡ 0 }
     ensures { IfOk result (λ b. b ≡ spelling (message_of m.now)) }
 {
-    let mut bytes = [0u8; 8 + SHORT_PAYLOAD];
+    let mut bytes = [0u8; HEADER + SHORT_PAYLOAD];
     let size = encode_into(m, &mut bytes).unwrap();
     Ok(Bytes::from_slice(alloc, &bytes[..size])?)
 }

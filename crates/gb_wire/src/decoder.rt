@@ -7,7 +7,7 @@ ghost use Rattle.gb_wire.specs.Decoding.{answer_of, judged};
 ghost use Rattle.gb_wire.specs.MessageOf.{message_of};
 
 use crate::Message;
-use crate::message::HEADER;
+use crate::message::{HEADER, RESPONSE};
 use byteorder::{ByteOrder, LittleEndian};
 use gb_base::WireFault;
 
@@ -34,7 +34,9 @@ fn front_message(bytes: &[u8]) -> Result<(Message<'_>, usize), WireFault>
     ensures { answer_of result ≡ decode_answer bytes.now }
 {
     if bytes.len() < HEADER {
-        return Err(WireFault::Short { need: 8 });
+        return Err(WireFault::Short {
+            need: HEADER as u32,
+        });
     }
     let size = size_of(bytes, bytes.len())?;
     let message = Message {
@@ -60,7 +62,7 @@ pub(crate) fn size_of(header: &[u8], there: usize) -> Result<usize, WireFault>
             need: u32::from(size),
         });
     }
-    if header[4] < 0x80 && header[5] != 0 {
+    if header[4] < RESPONSE && header[5] != 0 {
         return Err(WireFault::RequestResult { result: header[5] });
     }
     Ok(usize::from(size))

@@ -11,5 +11,5 @@ mod owned;
 pub use decoder::decode;
 pub use feeder::{FeedFault, Feeder};
 pub use laws::{encoded_is_decoded, one_division, one_spelling};
-pub use message::{Message, encode_into};
+pub use message::{HEADER, Message, RESPONSE, encode_into};
 pub use owned::{Messages, OwnedMessage};

@@ -7,15 +7,20 @@ ghost use Rattle.gb_wire.specs.MessageOf.{message_of};
 use byteorder::{ByteOrder, LittleEndian};
 use gb_base::NoRoom;
 
-/// How many bytes a header has.
-pub(crate) const HEADER: usize = 8;
+/// The size of a message's header in bytes (Greybus Specification, "Operation Messages"; in Linux
+/// that of `struct gb_operation_msg_hdr`).
+pub const HEADER: usize = 8;
+
+/// The first type of a response: it has the type of its request, with this bit (Greybus
+/// Specification, "Operation Messages"; in Linux `GB_MESSAGE_TYPE_RESPONSE`).
+pub const RESPONSE: u8 = 0x80;
 
 /// An operation message (Greybus Specification, "Operation Messages").
 #[derive(Clone, Copy)]
 pub struct Message<'a> {
     /// The identifier, 0 in a unidirectional request.
     pub id: u16,
-    /// The type. From 0x80 on it is that of a response.
+    /// The type. From `RESPONSE` on it is that of a response.
     pub kind: u8,
     /// The result byte, 0 in a request.
     pub result: u8,

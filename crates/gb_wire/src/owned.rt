@@ -12,7 +12,7 @@ use std::alloc::Global;
 pub struct OwnedMessage {
     /// The identifier, 0 in a unidirectional request.
     pub id: u16,
-    /// The type. From 0x80 on it is that of a response.
+    /// The type. From `RESPONSE` on it is that of a response.
     pub kind: u8,
     /// The result byte, 0 in a request.
     pub result: u8,
