@@ -31,14 +31,12 @@ use crate::queue::{Item, add, add_or_lose, ask_item};
 use crate::{SendFault, end_numbers};
 use gb_base::{End, OutOfMemory, Side};
 use gb_ops::Matched;
+use gb_payload::protocols::SVC;
 use gb_switch::{Place, Queues};
 use indexmap::IndexMap;
 use std::alloc::Global;
 use std::collections::HashMap;
 use std::marker::Model;
-
-/// The protocol of the supervisory controller.
-const SVC_PROTOCOL: u8 = 0x14;
 
 /// The live connections in the order in which they were made, with what waits on them.
 #[derive(Drop)]
@@ -74,7 +72,7 @@ impl Connections {
         ensures { IfOk result (λ x. x ≡ svc ∷ []) }
     {
         let mut connections = Connections::none(alloc);
-        connections.add(alloc, 1, 0, End::Svc, SVC_PROTOCOL)?;
+        connections.add(alloc, 1, 0, End::Svc, SVC)?;
         connections.wire(1)?;
         Ok(connections)
     }
