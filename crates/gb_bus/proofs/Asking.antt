@@ -1,6 +1,6 @@
 -- What is seen of the live connections where a request is made on one.
 use Rattle.std.proofs.Common.{◌≡◌, ℕ, Bool, true, false, cond, not, Option, Some, None}
-use Rattle.std.proofs.Common.{is_some, option_and_then, option_map, Result, Ok, Err, List, refl}
+use Rattle.std.proofs.Common.{is_some, option_and_then, Ok, Err, List, refl}
 use Rattle.std.proofs.Common.{sym, ap, ◌∙◌, subst}
 use Rattle.std.specs.List.{find}
 use Rattle.std.specs.Map.{lookup, set_value}
@@ -15,7 +15,7 @@ use Rattle.gb_bus.proofs.SeeingChanges.{finds, next-seen}
 use Rattle.gb_bus.proofs.SeeingQueues.{pushes, put-unwired}
 use Rattle.gb_bus.proofs.SeeingSides.{put-back, side-changes}
 use Rattle.gb_bus.specs.Connection.{Connection}
-use Rattle.gb_bus.specs.Index.{ChangesBy, Ends, MapsAgree, Leaves, Live}
+use Rattle.gb_bus.specs.Index.{Ends, MapsAgree, Live}
 use Rattle.gb_bus.specs.Parts.{end_at, next_of, numbered}
 use Rattle.gb_bus.specs.Seen.{all_seen, alone, seen}
 use Rattle.gb_bus.specs.Sides.{Asks, AsksIn, AsksOn, HasEndsOf, LabelsIn, LabelsOn, toward}
@@ -36,101 +36,64 @@ labels : (live live' : Live) (ends : Ends) (q : Queues) (k : ℕ) (s : Side) (n 
 labels live live' ends q k s n deadline true label x y kept found now h =
     (same-ok label 0 (Ok label) refl h.0, put-back live live' ends q k x y kept found now h.1)
 labels live live' ends q k s n deadline false label x y kept found now h =
-    side-changes live live' ends q k s x y (λ v u. Begins v u n deadline label) kept found now h
+    side-changes live live' ends q (all_seen q live.entries) k s x y
+    (λ v u. Begins v u n deadline label) kept refl found now h
 
 -- ---- it isn't made
 
--- what is answered then
-abbrev refused : SendFault → Result (ℕ × Option End) SendFault
-refused e = Err e
-
-pub asks-none : (live live' : Live) (ends : Ends) (q : Queues) (k : ℕ) (s : Side) (n kind : ℕ)
-    (payload : List ℕ) (deadline : ℕ) (oneway : Bool) (e : SendFault) → MapsAgree live ends q
-    → ChangesBy live live' k (λ x y. AsksOn x y s n deadline oneway (Err e) × HasEndsOf x y)
-    → (get nat_eq live k ≡ None → Leaves live live')
-    → (get nat_eq live k ≡ None → refused e ≡ refused fault.NoConnection)
-    → AsksIn (all_seen q live.entries) (all_seen q live'.entries) k s n kind payload deadline oneway
-    (Err e)
-asks-none live live' ends q k s n kind payload deadline oneway e kept there none fails =
-    by (get nat_eq live k) refl e oneway there fails
+pub asks-not : (live live' : Live) (ends : Ends) (q : Queues) (xs : List Connection) (k : ℕ)
+    (s : Side) (n kind : ℕ) (payload : List ℕ) (deadline : ℕ) (oneway : Bool) (e : SendFault)
+    (x y : code.Connection) → MapsAgree live ends q → all_seen q live.entries ≡ xs
+    → get nat_eq live k ≡ Some x → live'.entries ≡ set_value (nat_eq k) live.entries y
+    → AsksOn (alone 0 x) (alone 0 y) s n deadline oneway (Err e)
+    → AsksIn xs (all_seen q live'.entries) k s n kind payload deadline oneway (Err e)
+asks-not live live' ends q xs k s n kind payload deadline oneway e x y kept view found now did =
+    by e oneway did
   where
-    gone : (o : Option code.Connection) → get nat_eq live k ≡ o
-        → find (numbered k) (all_seen q live.entries) ≡ option_map (seen q k) o
-    gone o is = finds live q (all_seen q live.entries) k o refl is
+    there : find (numbered k) xs ≡ Some (seen q k x)
+    there = finds live q xs k (Some x) view found
 
-    by : (o : Option code.Connection) → get nat_eq live k ≡ o → (f : SendFault) → (b : Bool)
-        → ChangesBy live live' k (λ x y. AsksOn x y s n deadline b (Err f) × HasEndsOf x y)
-        → (get nat_eq live k ≡ None → refused f ≡ refused fault.NoConnection)
-        → AsksIn (all_seen q live.entries) (all_seen q live'.entries) k s n kind payload deadline b
-        (Err f)
-    by None is fault.NoLabel b h fails = absurd (cc (fails is))
-    by None is fault.NoConnection b h fails = (gone None is, ap (all_seen q) (none is))
-    by None is (fault.Memory m) b h fails = absurd (cc (fails is))
-    by (Some x) is fault.NoLabel true h fails = absurd (cc ((h x is).did.0.0))
-    by (Some x) is fault.NoLabel false h fails =
-        let w = h x is in (
-          record {
-            live = ap is_some (gone (Some x) is);
-            needs = refl;
-            spent = ap (option_and_then (next_of s)) (gone (Some x) is)
-                ∙ sym (next-seen q k x s) ∙ w.did.0.0;
-          },
-          put-back live live' ends q k x w.after kept is w.now w.did.0.1,
-        )
-    by (Some x) is fault.NoConnection true h fails = absurd (cc ((h x is).did.0.0))
-    by (Some x) is fault.NoConnection false h fails = absurd (h x is).did.0
-    by (Some x) is (fault.Memory m) b h fails = ap is_some (gone (Some x) is)
+    by : (f : SendFault) → (b : Bool) → AsksOn (alone 0 x) (alone 0 y) s n deadline b (Err f)
+        → AsksIn xs (all_seen q live'.entries) k s n kind payload deadline b (Err f)
+    by fault.NoLabel true h = absurd (cc h.0)
+    by fault.NoLabel false h = (
+      record {
+        live = ap is_some there;
+        needs = refl;
+        spent = ap (option_and_then (next_of s)) there ∙ sym (next-seen q k x s) ∙ h.0;
+      },
+      put-back live live' ends q k x y kept found now h.1 ∙ view,
+    )
+    by fault.NoConnection true h = absurd (cc h.0)
+    by fault.NoConnection false h = absurd h
+    by (fault.Memory m) b h = ap is_some there
 
 -- ---- the request is made
 
--- what the connection was and is
+-- what the connection is then
 pub record Made (live live' : Live) (ends : Ends) (q : Queues) (k : ℕ) (s : Side) (n deadline : ℕ)
-    (oneway : Bool) (a : ℕ × Option End) : Type 0 where
-  pub before : code.Connection
-  pub after : code.Connection
-  pub found : get nat_eq live k ≡ Some before
-  pub there : get nat_eq live' k ≡ Some after
-  pub wire : after.wired ≡ before.wired
+    (oneway : Bool) (a : ℕ × Option End) (x y : code.Connection) : Type 0 where
+  pub found : get nat_eq live k ≡ Some x
+  pub there : get nat_eq live' k ≡ Some y
+  pub wire : y.wired ≡ x.wired
   pub stays : MapsAgree live' ends q
   pub labels_are : LabelsIn (all_seen q live.entries) (all_seen q live'.entries) k s n deadline
       oneway a.0
-  pub goes : a.1 ≡ toward (other_side s) (alone 0 after)
+  pub goes : a.1 ≡ toward (other_side s) (alone 0 y)
 
 pub made : (live live' : Live) (ends : Ends) (q : Queues) (k : ℕ) (s : Side) (n deadline : ℕ)
-    (oneway : Bool) (a : ℕ × Option End) → MapsAgree live ends q
-    → ChangesBy live live' k (λ x y. AsksOn x y s n deadline oneway (Ok a) × HasEndsOf x y)
-    → (get nat_eq live k ≡ None → Ok a ≡ Err fault.NoConnection)
-    → Made live live' ends q k s n deadline oneway a
-made live live' ends q k s n deadline oneway a kept there fails = by (get nat_eq live k) refl
-  where
-    by : (o : Option code.Connection) → get nat_eq live k ≡ o
-        → Made live live' ends q k s n deadline oneway a
-    by None e = absurd (cc (fails e))
-    by (Some x) e =
-        let w = there x e in
-        record {
-          before = x;
-          after = w.after;
-          found = e;
-          there = ap (lookup (nat_eq k)) w.now ∙ set-here k live.entries x w.after e;
-          wire = w.did.1.wire;
-          stays = kept-set live live' ends q k x w.after e w.now w.did.1.near w.did.1.far
-              w.did.1.wire kept;
-          labels_are = labels live live' ends q k s n deadline oneway a.0 x w.after kept e w.now
-              w.did.0.0;
-          goes = w.did.0.1;
-        }
-
--- the connection is live
-pub asks-live : (live live' : Live) (ends : Ends) (q : Queues) (xs : List Connection) (k : ℕ)
-    (s : Side) (n deadline : ℕ) (oneway : Bool) (a : ℕ × Option End) → MapsAgree live ends q
-    → all_seen q live.entries ≡ xs
-    → ChangesBy live live' k (λ x y. AsksOn x y s n deadline oneway (Ok a) × HasEndsOf x y)
-    → (get nat_eq live k ≡ None → Ok a ≡ Err fault.NoConnection)
-    → is_some (find (numbered k) xs) ≡ true
-asks-live live live' ends q xs k s n deadline oneway a kept view there fails =
-    let m = made live live' ends q k s n deadline oneway a kept there fails in
-    ap is_some (finds live q xs k (Some m.before) view m.found)
+    (oneway : Bool) (a : ℕ × Option End) (x y : code.Connection) → MapsAgree live ends q
+    → get nat_eq live k ≡ Some x → live'.entries ≡ set_value (nat_eq k) live.entries y
+    → AsksOn (alone 0 x) (alone 0 y) s n deadline oneway (Ok a)
+    → HasEndsOf (alone 0 x) (alone 0 y) → Made live live' ends q k s n deadline oneway a x y
+made live live' ends q k s n deadline oneway a x y kept found now did same = record {
+  found = found;
+  there = ap (lookup (nat_eq k)) now ∙ set-here k live.entries x y found;
+  wire = same.wire;
+  stays = kept-set live live' ends q k x y found now same kept;
+  labels_are = labels live live' ends q k s n deadline oneway a.0 x y kept found now did.0;
+  goes = did.1;
+}
 
 nowhere : (c : Connection) (s : Side) → toward s c ≡ None → c.wired ≡ false
 nowhere c s e = by c.wired e
@@ -150,43 +113,40 @@ somewhere c s at e = by c.wired e
 -- it is lost
 pub asks-lost : (live live' : Live) (ends : Ends) (q : Queues) (xs : List Connection) (k : ℕ)
     (s : Side) (n kind : ℕ) (payload : List ℕ) (deadline : ℕ) (oneway : Bool)
-    (a : ℕ × Option End) → MapsAgree live ends q → all_seen q live.entries ≡ xs
-    → ChangesBy live live' k (λ x y. AsksOn x y s n deadline oneway (Ok a) × HasEndsOf x y)
-    → (get nat_eq live k ≡ None → Ok a ≡ Err fault.NoConnection) → a.1 ≡ None
+    (a : ℕ × Option End) (x y : code.Connection)
+    → Made live live' ends q k s n deadline oneway a x y
+    → all_seen q live.entries ≡ xs → a.1 ≡ None
     → Asks xs (all_seen q live'.entries) k s n kind payload deadline oneway a.0 true
-asks-lost live live' ends q xs k s n kind payload deadline oneway a kept view there fails none =
-    let m = made live live' ends q k s n deadline oneway a kept there fails in
-    let loose = nowhere (alone 0 m.after) (other_side s) (sym m.goes ∙ none) in
+asks-lost live live' ends q xs k s n kind payload deadline oneway a x y m view none =
+    let loose = nowhere (alone 0 y) (other_side s) (sym m.goes ∙ none) in
     subst (λ ys. Asks ys (all_seen q live'.entries) k s n kind payload deadline oneway a.0 true)
     view (record {
-      connection = seen q k m.before;
-      found = finds live q (all_seen q live.entries) k (Some m.before) refl m.found;
+      connection = seen q k x;
+      found = finds live q (all_seen q live.entries) k (Some x) refl m.found;
       lost_is = sym (ap not (sym m.wire ∙ loose));
       begun = all_seen q live'.entries;
       labels = m.labels_are;
-      waits = put-unwired live' ends q (all_seen q live'.entries) k m.after (other_side s)
+      waits = put-unwired live' ends q (all_seen q live'.entries) k y (other_side s)
           (item.Ask n a.0 kind payload) m.stays refl m.there loose;
     })
 
 -- it waits
 pub asks-waits : (live live' : Live) (ends : Ends) (q r : Queues) (xs : List Connection) (k : ℕ)
     (s : Side) (n kind : ℕ) (payload : List ℕ) (deadline : ℕ) (oneway : Bool)
-    (a : ℕ × Option End) (at : End) → MapsAgree live ends q → all_seen q live.entries ≡ xs
-    → ChangesBy live live' k (λ x y. AsksOn x y s n deadline oneway (Ok a) × HasEndsOf x y)
-    → (get nat_eq live k ≡ None → Ok a ≡ Err fault.NoConnection) → a.1 ≡ Some at
+    (a : ℕ × Option End) (at : End) (x y : code.Connection)
+    → Made live live' ends q k s n deadline oneway a x y
+    → all_seen q live.entries ≡ xs → a.1 ≡ Some at
     → Appends (items_at q) (items_at r) at (item.Ask n a.0 kind payload)
     → Asks xs (all_seen r live'.entries) k s n kind payload deadline oneway a.0 false
-asks-waits live live' ends q r xs k s n kind payload deadline oneway a at kept view there fails is
-    puts =
-    let m = made live live' ends q k s n deadline oneway a kept there fails in
-    let w = somewhere (alone 0 m.after) (other_side s) at (sym m.goes ∙ is) in
+asks-waits live live' ends q r xs k s n kind payload deadline oneway a at x y m view is puts =
+    let w = somewhere (alone 0 y) (other_side s) at (sym m.goes ∙ is) in
     subst (λ ys. Asks ys (all_seen r live'.entries) k s n kind payload deadline oneway a.0 false)
     view (record {
-      connection = seen q k m.before;
-      found = finds live q (all_seen q live.entries) k (Some m.before) refl m.found;
+      connection = seen q k x;
+      found = finds live q (all_seen q live.entries) k (Some x) refl m.found;
       lost_is = sym (ap not (sym m.wire ∙ w.0));
       begun = all_seen q live'.entries;
       labels = m.labels_are;
-      waits = pushes live' ends q r (all_seen q live'.entries) k m.after (other_side s) at
+      waits = pushes live' ends q r (all_seen q live'.entries) k y (other_side s) at
           (item.Ask n a.0 kind payload) m.stays refl m.there w.0 w.1 puts;
     })

@@ -17,6 +17,7 @@ use Rattle.gb_bus.specs.Index.{Ends, HasEnd, HasQueues, IsEndOf, IsIndexed, IsOw
 use Rattle.gb_bus.specs.Index.{MapsAgree, number_at}
 use Rattle.gb_bus.specs.Parts.{end_at}
 use Rattle.gb_bus.specs.Seen.{alone, items_of, seen}
+use Rattle.gb_bus.specs.Sides.{HasEndsOf}
 use Rattle.gb_bus.specs.declared.connection.Connection as code
 use Rattle.gb_bus.specs.declared.queue.Item.{Item}
 use Rattle.gb_switch.proofs.Lines.{is-end}
@@ -222,16 +223,15 @@ queued-set live live' q n x y found set ap_is peer_is own others k z there w =
 -- but what waits, and not its wire
 pub kept-set : (live live' : Live) (ends : Ends) (q : Queues) (n : ℕ) (x y : code.Connection)
     → get nat_eq live n ≡ Some x → live'.entries ≡ set_value (nat_eq n) live.entries y
-    → y.ap ≡ x.ap → y.peer ≡ x.peer → y.wired ≡ x.wired
-    → MapsAgree live ends q → MapsAgree live' ends q
-kept-set live live' ends q n x y found set ap_is peer_is wired k = record {
+    → HasEndsOf (alone 0 x) (alone 0 y) → MapsAgree live ends q → MapsAgree live' ends q
+kept-set live live' ends q n x y found set s k = record {
   unique = unique-set live live' n y set k.unique;
-  indexed = indexed-set live live' ends n x y found set ap_is peer_is k.indexed;
-  numbered = numbered-set live live' ends n x y found set ap_is peer_is k.numbered;
+  indexed = indexed-set live live' ends n x y found set s.near s.far k.indexed;
+  numbered = numbered-set live live' ends n x y found set s.near s.far k.numbered;
   owned = λ a items t.
-      owned-set live live' n x y a found set ap_is peer_is (λ w. wired ∙ w) (k.owned a items t);
-  queued = queued-set live live' q n x y found set ap_is peer_is
-      (λ w. k.queued n x found (sym wired ∙ w)) (λ j z ne there w. k.queued j z there w);
+      owned-set live live' n x y a found set s.near s.far (λ w. s.wire ∙ w) (k.owned a items t);
+  queued = queued-set live live' q n x y found set s.near s.far
+      (λ w. k.queued n x found (sym s.wire ∙ w)) (λ j z ne there w. k.queued j z there w);
 }
 
 -- none changes

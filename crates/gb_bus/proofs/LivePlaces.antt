@@ -1,17 +1,16 @@
 -- Where live connections stand, and what a change there is by number.
-use Rattle.std.proofs.Common.{◌≡◌, ℕ, zero, suc, true, false, cond, Some, None, List, [], ◌∷◌, eqb}
-use Rattle.std.proofs.Common.{sym, ap, ◌∙◌, subst, arith}
+use Rattle.std.proofs.Common.{◌≡◌, ℕ, zero, suc, Bool, true, false, cond, Some, None, List, []}
+use Rattle.std.proofs.Common.{◌∷◌, eqb, refl, sym, ap, ◌∙◌, subst, arith}
 use Rattle.std.proofs.lemmas.Bool.Decides.{nat_tests}
 use Rattle.std.proofs.lemmas.Map.Keys.{IsDistinct-head, IsDistinct-tail}
 use Rattle.std.proofs.lemmas.Map.Made.{lookup_key_passes}
 use Rattle.std.specs.List.{AllByRecursion, IsDistinct}
-use Rattle.std.specs.Map.{keys_of, lookup_key, set_value, values_of}
+use Rattle.std.specs.Map.{keys_of, lookup, lookup_key, set_value, values_of}
 use Rattle.std.specs.Prelude.{slice_get}
-use Rattle.indexmap.specs.IndexMap.{IsUnique, get, set_value_at, values, with_value_at}
+use Rattle.indexmap.specs.IndexMap.{IsUnique, get, set_value_at, values}
 use Rattle.gb_bus.proofs.Entries.{other-number, same-number, same-some, some-none}
-use Rattle.gb_bus.specs.Connection.{Connection}
-use Rattle.gb_bus.specs.Index.{ChangesOf, Live, StandsAt}
-use Rattle.gb_bus.specs.Seen.{alone}
+use Rattle.gb_bus.specs.Index.{Live}
+use Rattle.gb_bus.specs.Numbered.{StandsAt}
 use Rattle.gb_bus.specs.declared.connection.Connection as code
 
 one-number : (n k : ℕ) → eqb n k ≡ true → n ≡ k
@@ -69,23 +68,24 @@ value-at k at x [] there = absurd (cc there)
 value-at k zero x (e ∷ es) there = ap (λ p. Some p.1) (same-some e (k, x) there)
 value-at k (suc at) x (e ∷ es) there = value-at k at x es there
 
-pub changes-at : (live : Live) (k at : ℕ) (R : Connection → Connection → Type 0)
-    (z y : code.Connection) → StandsAt live k at → IsUnique eqb live
-    → Some z ≡ slice_get (values live) at → R (alone 0 z) (alone 0 y)
-    → (x : code.Connection) → get eqb live k ≡ Some x
-    → ChangesOf live (with_value_at live at y) k R x
-changes-at live k at R z y s unique here did x is = record {
-  after = y;
-  did = subst (λ w. R (alone 0 w) (alone 0 y)) one did;
-  now = set-at k at s.connection y live.entries unique s.there;
-}
-  where
-    one : z ≡ x
-    one = same-some z x
-        (here ∙ value-at k at s.connection live.entries s.there ∙ sym s.is ∙ is)
+-- the connection with a number is what is left where it stands
+pub changes-at : (live : Live) (k at : ℕ) → StandsAt live k at → IsUnique eqb live
+    → (y : code.Connection) → set_value_at live.entries at y ≡ set_value (eqb k) live.entries y
+changes-at live k at s unique y = set-at k at s.connection y live.entries unique s.there
 
--- where one stands there is a value
-pub never-none : (live : Live) (k at : ℕ) → StandsAt live k at
-    → None ≡ slice_get (values live) at → ⊥
-never-none live k at s none =
-    some-none s.connection (sym (none ∙ value-at k at s.connection live.entries s.there))
+-- and what stands there
+pub value-is : (live : Live) (k at : ℕ) → StandsAt live k at
+    → slice_get (values live) at ≡ get eqb live k
+value-is live k at s = value-at k at s.connection live.entries s.there ∙ sym s.is
+
+-- where none has the number none changes
+pub set-none : {X : Type 0} (k : ℕ) (y : X) (es : List (ℕ × X)) → lookup (eqb k) es ≡ None
+    → es ≡ set_value (eqb k) es y
+set-none k y [] none = refl
+set-none k y (e ∷ es) none = by (eqb k e.0) none (set-none k y es)
+  where
+    by : (b : Bool) → cond b (Some e.1) (lookup (eqb k) es) ≡ None
+        → (lookup (eqb k) es ≡ None → es ≡ set_value (eqb k) es y)
+        → e ∷ es ≡ cond b ((e.0, y) ∷ es) (e ∷ set_value (eqb k) es y)
+    by true found later = absurd (some-none e.1 found)
+    by false gone later = ap (λ fs. e ∷ fs) (later gone)

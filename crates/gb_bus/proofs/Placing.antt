@@ -13,7 +13,8 @@ use Rattle.gb_base.specs.declared.end.Side.TheVariants as side
 use Rattle.gb_bus.proofs.Entries.{EachEntry, both, each-back, each-entry, each-front, find-none}
 use Rattle.gb_bus.proofs.Entries.{find-split, nowhere, same-some, some-none, split}
 use Rattle.gb_bus.proofs.Keeping.{Queues, number-of-end}
-use Rattle.gb_bus.specs.Index.{Ends, HasSide, IsEndOf, IsIndexed, MapsAgree, Live, number_at}
+use Rattle.gb_bus.specs.Index.{Ends, IsEndOf, IsIndexed, MapsAgree, Live, number_at}
+use Rattle.gb_bus.specs.Numbered.{HasSide}
 use Rattle.gb_bus.specs.Parts.{end_at, joins, place_at, side_at}
 use Rattle.gb_bus.specs.Seen.{all_seen, alone, seen}
 use Rattle.gb_bus.specs.declared.connection.Connection as code

@@ -1,6 +1,6 @@
 -- Which ends have a queue.
-use Rattle.std.proofs.Common.{◌≡◌, ℕ, Bool, true, false, cond, Option, Some, None, option_and_then}
-use Rattle.std.proofs.Common.{Ok, Err, List, refl, sym, ap, ◌∙◌, subst, IsSome}
+use Rattle.std.proofs.Common.{◌≡◌, ℕ, Bool, true, false, cond, Option, Some, None}
+use Rattle.std.proofs.Common.{List, refl, sym, ap, ◌∙◌, subst, IsSome}
 use Rattle.std.proofs.lemmas.Bool.{true≢false}
 use Rattle.std.specs.Option.{IfSome}
 use Rattle.std.specs.Prelude.{nat_eq}
@@ -8,14 +8,13 @@ use Rattle.indexmap.specs.IndexMap.{get}
 use Rattle.gb_base.specs.declared.end.End.{End}
 use Rattle.gb_base.specs.declared.end.Side.{Side}
 use Rattle.gb_base.specs.declared.end.Side.TheVariants as side
-use Rattle.gb_bus.proofs.Asking.{made, somewhere}
+use Rattle.gb_bus.proofs.Asking.{Made, somewhere}
 use Rattle.gb_bus.proofs.Entries.{same-some}
 use Rattle.gb_bus.proofs.Keeping.{Queues, number-of-end}
-use Rattle.gb_bus.specs.Index.{ChangesBy, Ends, HasQueues, IsEndOf, MapsAgree, Live, end_toward}
+use Rattle.gb_bus.specs.Index.{Ends, HasQueues, IsEndOf, MapsAgree, Live}
 use Rattle.gb_bus.specs.Parts.{end_at}
 use Rattle.gb_bus.specs.Seen.{alone}
-use Rattle.gb_bus.specs.Sides.{AsksOn, HasEndsOf, toward}
-use Rattle.gb_bus.specs.declared.answers.SendFault.TheVariants as fault
+use Rattle.gb_bus.specs.Sides.{toward}
 use Rattle.gb_bus.specs.declared.connection.Connection as code
 use Rattle.gb_bus.specs.declared.queue.Item.{Item}
 use Rattle.gb_machine.specs.Bus.{other_side}
@@ -48,29 +47,21 @@ side-queue q x side.Ap h = h.near
 side-queue q x side.Far h = h.far
 
 -- the end toward which a message goes has one
-pub queue-toward : (live : Live) (ends : Ends) (q : Queues) (k : ℕ) (s : Side)
-    → MapsAgree live ends q
-    → IfSome (end_toward live k s) (λ a. IsSome (items_at q a))
-queue-toward live ends q k s kept = by (get nat_eq live k) refl
+pub queue-toward : (live : Live) (ends : Ends) (q : Queues) (k : ℕ) (x : code.Connection) (s : Side)
+    → MapsAgree live ends q → get nat_eq live k ≡ Some x
+    → IfSome (toward s (alone 0 x)) (λ a. IsSome (items_at q a))
+queue-toward live ends q k x s kept found = by x.wired refl
   where
-    wire : (x : code.Connection) → get nat_eq live k ≡ Some x → (b : Bool) → x.wired ≡ b
+    by : (b : Bool) → x.wired ≡ b
         → IfSome (cond b (Some (end_at s (alone 0 x))) None) (λ a. IsSome (items_at q a))
-    wire x e true w = side-queue q x s (kept.queued k x e w)
-    wire x e false w = tt
-
-    by : (o : Option code.Connection) → get nat_eq live k ≡ o
-        → IfSome (option_and_then (λ x. toward s (alone 0 x)) o) (λ a. IsSome (items_at q a))
-    by None e = tt
-    by (Some x) e = wire x e x.wired refl
+    by true w = side-queue q x s (kept.queued k x found w)
+    by false w = tt
 
 -- and that toward which a request goes
 pub queue-asked : (live live' : Live) (ends : Ends) (q : Queues) (k : ℕ) (s : Side)
-    (n deadline : ℕ) (oneway : Bool) (a : ℕ × Option End) (at : End) → MapsAgree live ends q
-    → ChangesBy live live' k (λ x y. AsksOn x y s n deadline oneway (Ok a) × HasEndsOf x y)
-    → (get nat_eq live k ≡ None → Ok a ≡ Err fault.NoConnection) → a.1 ≡ Some at
-    → IsSome (items_at q at)
-queue-asked live live' ends q k s n deadline oneway a at kept there fails is =
-    let m = made live live' ends q k s n deadline oneway a kept there fails in
-    let w = somewhere (alone 0 m.after) (other_side s) at (sym m.goes ∙ is) in
+    (n deadline : ℕ) (oneway : Bool) (a : ℕ × Option End) (at : End) (x y : code.Connection)
+    → Made live live' ends q k s n deadline oneway a x y → a.1 ≡ Some at → IsSome (items_at q at)
+queue-asked live live' ends q k s n deadline oneway a at x y m is =
+    let w = somewhere (alone 0 y) (other_side s) at (sym m.goes ∙ is) in
     subst (λ e. IsSome (items_at q e)) (sym w.1)
-    (side-queue q m.after (other_side s) (m.stays.queued k m.after m.there w.0))
+    (side-queue q y (other_side s) (m.stays.queued k y m.there w.0))

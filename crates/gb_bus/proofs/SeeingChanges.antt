@@ -9,9 +9,9 @@ use Rattle.gb_base.specs.declared.end.End.TheVariants as end
 use Rattle.gb_base.specs.declared.end.Side.{Side}
 use Rattle.gb_base.specs.declared.end.Side.TheVariants as side
 use Rattle.gb_bus.proofs.Entries.{changes, find-seen, first-nowhere, nowhere}
-use Rattle.gb_bus.proofs.Keeping.{Queues, kept-same, kept-set}
+use Rattle.gb_bus.proofs.Keeping.{Queues}
 use Rattle.gb_bus.specs.Connection.{Connection}
-use Rattle.gb_bus.specs.Index.{ChangesBy, Ends, MapsAgree, Leaves, Live}
+use Rattle.gb_bus.specs.Index.{Ends, MapsAgree, Live}
 use Rattle.gb_bus.specs.Parts.{closed, next_of, numbered, ops_of, queue_of, soiled}
 use Rattle.gb_bus.specs.Seen.{all_seen, alone, seen, waits_at}
 use Rattle.gb_bus.specs.Sides.{HasEndsOf}
@@ -52,21 +52,6 @@ filled q k c = record c {
   to_far = waits_at q c.wired c.peer;
 }
 
--- each connection is kept that has the ends of one that was
-pub keeps : (live live' : Live) (ends : Ends) (q : Queues) (k : ℕ)
-    (R : Connection → Connection → Type 0)
-    → ((x y : Connection) → R x y → HasEndsOf x y) → ChangesBy live live' k R
-    → (get nat_eq live k ≡ None → Leaves live live') → MapsAgree live ends q
-    → MapsAgree live' ends q
-keeps live live' ends q k R same there none kept = by (get nat_eq live k) refl
-  where
-    by : (o : Option code.Connection) → get nat_eq live k ≡ o → MapsAgree live' ends q
-    by None e = kept-same live live' ends q (none e) kept
-    by (Some x) e =
-        let w = there x e in
-        let s = same (alone 0 x) (alone 0 w.after) w.did in
-        kept-set live live' ends q k x w.after e w.now s.near s.far s.wire kept
-
 -- what is seen, where one changes
 pub changes-one : (live live' : Live) (ends : Ends) (q : Queues) (k : ℕ) (x y : code.Connection)
     (f : Connection → Connection) → MapsAgree live ends q → get nat_eq live k ≡ Some x
@@ -77,34 +62,14 @@ changes-one live live' ends q k x y f kept found now one =
     changes q q live.entries live'.entries k x y f kept.unique found now one (λ j z t ne. refl)
 
 -- and where none does
-pub changes-none : (live live' : Live) (q : Queues) (k : ℕ) (f : Connection → Connection)
-    → get nat_eq live k ≡ None → Leaves live live'
-    → all_seen q live'.entries ≡ at_first (numbered k) f (all_seen q live.entries)
-changes-none live live' q k f none same =
-    ap (all_seen q) same
-    ∙ sym (first-nowhere q live.entries k f (nowhere k live.entries none))
-
 pub nothing-changes : (live : Live) (q : Queues) (xs : List Connection) (k : ℕ)
     (f : Connection → Connection) → all_seen q live.entries ≡ xs → get nat_eq live k ≡ None
     → xs ≡ at_first (numbered k) f xs
 nothing-changes live q xs k f view none =
-    subst (λ ys. ys ≡ at_first (numbered k) f ys) view (changes-none live live q k f none refl)
+    subst (λ ys. ys ≡ at_first (numbered k) f ys) view
+    (sym (first-nowhere q live.entries k f (nowhere k live.entries none)))
 
 -- ---- something else changes than ends and what waits there
-
-pub marks : (live live' : Live) (ends : Ends) (q : Queues) (k : ℕ) (f : Connection → Connection)
-    → ((x : code.Connection) → filled q k (f (alone 0 x)) ≡ f (seen q k x)) → MapsAgree live ends q
-    → ChangesBy live live' k (λ x y. y ≡ f x) → (get nat_eq live k ≡ None → Leaves live live')
-    → all_seen q live'.entries ≡ at_first (numbered k) f (all_seen q live.entries)
-marks live live' ends q k f fills kept there none = by (get nat_eq live k) refl
-  where
-    by : (o : Option code.Connection) → get nat_eq live k ≡ o
-        → all_seen q live'.entries ≡ at_first (numbered k) f (all_seen q live.entries)
-    by None e = changes-none live live' q k f e (none e)
-    by (Some x) e =
-        let w = there x e in
-        changes-one live live' ends q k x w.after f kept e w.now
-        (ap (filled q k) w.did ∙ fills x)
 
 pub marked-ends : (f : Connection → Connection) → ((x : Connection) → HasEndsOf x (f x))
     → (x y : Connection) → y ≡ f x → HasEndsOf x y

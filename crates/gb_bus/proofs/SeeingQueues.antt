@@ -12,9 +12,9 @@ use Rattle.gb_base.specs.declared.end.Side.TheVariants as side
 use Rattle.gb_bus.proofs.Entries.{changes, each-entry, same-seen}
 use Rattle.gb_bus.proofs.Keeping.{Queues, kept-appends, kept-stays, kept-takes, not-one}
 use Rattle.gb_bus.proofs.Keeping.{seen-others, seen-same, two-ends}
-use Rattle.gb_bus.proofs.SeeingChanges.{changes-one, finds, nothing-changes}
+use Rattle.gb_bus.proofs.SeeingChanges.{changes-one, finds}
 use Rattle.gb_bus.specs.Connection.{Connection}
-use Rattle.gb_bus.specs.Index.{AddsAt, Ends, IsIndexed, MapsAgree, Live, end_toward}
+use Rattle.gb_bus.specs.Index.{AddsAt, Ends, IsIndexed, MapsAgree, Live}
 use Rattle.gb_bus.specs.Parts.{TakesFrontAs, end_at, front_in, numbered, put, queue_of, with_queue}
 use Rattle.gb_bus.specs.Parts.{without_front}
 use Rattle.gb_bus.specs.Seen.{all_seen, alone, items_of, seen}
@@ -142,24 +142,16 @@ kept-adds live ends q r None item h kept = subst (MapsAgree live ends) (sym h) k
 kept-adds live ends q r (Some at) item h kept = kept-appends live ends q r at item h kept
 
 pub adds-toward : (live : Live) (ends : Ends) (q r : Queues) (xs : List Connection) (k : ℕ)
-    (s : Side) (item : Item) → MapsAgree live ends q → all_seen q live.entries ≡ xs
-    → AddsAt (end_toward live k s) item q r
+    (x : code.Connection) (s : Side) (item : Item) → MapsAgree live ends q
+    → all_seen q live.entries ≡ xs → get nat_eq live k ≡ Some x
+    → AddsAt (toward s (alone 0 x)) item q r
     → all_seen r live.entries ≡ at_first (numbered k) (put s item) xs
-adds-toward live ends q r xs k s item kept view h = by (get nat_eq live k) refl h
+adds-toward live ends q r xs k x s item kept view found h = by x.wired refl h
   where
-    wired : (x : code.Connection) → get nat_eq live k ≡ Some x → (w : Bool) → x.wired ≡ w
-        → AddsAt (cond w (Some (end_at s (alone 0 x))) None) item q r
+    by : (w : Bool) → x.wired ≡ w → AddsAt (cond w (Some (end_at s (alone 0 x))) None) item q r
         → all_seen r live.entries ≡ at_first (numbered k) (put s item) xs
-    wired x found true w puts =
+    by true w puts =
         pushes live ends q r xs k x s (end_at s (alone 0 x)) item kept view found w refl puts
-    wired x found false w same =
+    by false w same =
         ap (λ p. all_seen p live.entries) same ∙ view
         ∙ put-unwired live ends q xs k x s item kept view found w
-
-    by : (o : Option code.Connection) → get nat_eq live k ≡ o
-        → AddsAt (option_and_then (λ x. toward s (alone 0 x)) o) item q r
-        → all_seen r live.entries ≡ at_first (numbered k) (put s item) xs
-    by None e same =
-        ap (λ p. all_seen p live.entries) same ∙ view
-        ∙ nothing-changes live q xs k (put s item) view e
-    by (Some x) e puts = wired x e x.wired refl puts

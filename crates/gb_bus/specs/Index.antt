@@ -1,21 +1,14 @@
 -- How live connections are kept: by number, the numbers by end, and what waits by end.
-use Rattle.std.specs.Prelude.{◌≡◌, ◌≢◌, ◌⊎◌, ℕ, true, Option, Some, None, IsSome, List}
-use Rattle.std.specs.Prelude.{if◌then◌else◌, nat_eq, option_and_then, slice_get}
+use Rattle.std.specs.Prelude.{◌≡◌, ◌≢◌, ◌⊎◌, ℕ, true, Option, Some, None, IsSome, List, nat_eq}
 use Rattle.std.specs.HashMap as map
 use Rattle.std.specs.HashMap.{HashMap}
-use Rattle.std.specs.Map.{set_value}
 use Rattle.std.specs.Ordering.{eq_by_cmp}
 use Rattle.std.specs.declared.hash.BuildHasherDefault.{BuildHasherDefault}
 use Rattle.std.specs.declared.hash.FoldHasher.{FoldHasher}
-use Rattle.indexmap.specs.IndexMap.{IndexMap, IsUnique, get, insert_entry}
+use Rattle.indexmap.specs.IndexMap.{IndexMap, IsUnique, get}
 use Rattle.gb_base.specs.declared.end.End.{End}
 use Rattle.gb_base.specs.declared.end.End.TheVariants as end
-use Rattle.gb_base.specs.declared.end.Side.{Side}
-use Rattle.gb_bus.specs.Connection.{Connection}
 use Rattle.gb_bus.specs.Ends.{is_far}
-use Rattle.gb_bus.specs.Parts.{new_connection, side_at}
-use Rattle.gb_bus.specs.Seen.{alone}
-use Rattle.gb_bus.specs.Sides.{toward}
 use Rattle.gb_bus.specs.declared.connection.Connection as code
 use Rattle.gb_bus.specs.declared.queue.Item.{Item}
 use Rattle.gb_switch.specs.Places.{end_cmp}
@@ -91,53 +84,6 @@ pub record MapsAgree (live : Live) (ends : Ends)
   pub owned : (at : End) (items : List Item) → items_at queues at ≡ Some items → IsOwned live at
   pub queued : (k : ℕ) (x : code.Connection) → get nat_eq live k ≡ Some x → x.wired ≡ true
       → HasQueues queues x
-
--- the connection with a number stands at a place
-pub record StandsAt (live : Live) (k at : ℕ) : Type 0 where
-  pub connection : code.Connection
-  pub there : slice_get live.entries at ≡ Some (k, connection)
-  pub is : get nat_eq live k ≡ Some connection
-
--- The place where it stands is found, or it isn't live.
-abbrev pub IsPlaced : Live → ℕ → Option ℕ → Type 0
-IsPlaced live k (Some at) = StandsAt live k at
-IsPlaced live k None = get nat_eq live k ≡ None
-
--- the connection with a number is wired, and an end stands at this side of it
-pub record HasSide (live : Live) (k : ℕ) (at : End) (side : Side) : Type 0 where
-  pub connection : code.Connection
-  pub there : get nat_eq live k ≡ Some connection
-  pub is : side_at at (alone 0 connection) ≡ Some side
-
--- the connection with a number was this, and changes so
-pub record ChangesOf (old new : Live) (k : ℕ)
-    (R : Connection → Connection → Type 0) (before : code.Connection) : Type 0 where
-  pub after : code.Connection
-  pub did : R (alone 0 before) (alone 0 after)
-  pub now : new.entries ≡ set_value (nat_eq k) old.entries after
-
--- The connection with a number changes so, but for its number and what waits, and no other does.
-abbrev pub ChangesBy : Live → Live → ℕ
-    → (Connection → Connection → Type 0) → Type 0
-ChangesBy old new k R = (x : code.Connection) → get nat_eq old k ≡ Some x → ChangesOf old new k R x
-
--- a new connection has this number
-pub record IsAdded (old new : Live) (number ap : ℕ) (peer : End)
-    (protocol : ℕ) : Type 0 where
-  pub connection : code.Connection
-  pub is : alone 0 connection ≡ new_connection 0 ap peer protocol
-  pub has : (k : ℕ) → get nat_eq new k
-      ≡ (if nat_eq number k then Some connection else get nat_eq old k)
-  pub unique : IsUnique nat_eq new
-  pub entries : new.entries ≡ insert_entry nat_eq old.entries number connection
-
--- none changes
-abbrev pub Leaves : Live → Live → Type 0
-Leaves old new = new.entries ≡ old.entries
-
--- the end at a side of the connection with a number, where that is wired
-abbrev pub end_toward : Live → ℕ → Side → Option End
-end_toward live k at = option_and_then (λ x. toward at (alone 0 x)) (get nat_eq live k)
 
 -- a message waits behind those at an end, or is lost where there is no end
 abbrev pub AddsAt : Option End → Item → List (End × List Item) → List (End × List Item) → Type 0

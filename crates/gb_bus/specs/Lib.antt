@@ -9,6 +9,7 @@ pub mod Keeping
 pub mod Listing
 pub mod Moving
 pub mod Naming
+pub mod Numbered
 pub mod Overview
 pub mod Parts
 pub mod Raw

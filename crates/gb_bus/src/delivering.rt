@@ -12,9 +12,7 @@ use crate::queue::Item;
 use crate::{Arrival, Arrived, Asked, Bus, DeliverFault};
 use gb_base::{Bytes, End, Outcome, Side, TryCopy};
 use gb_ops::Matched;
-
-/// The least type of a response.
-const FIRST_RESPONSE: u8 = 0x80;
+use gb_wire::RESPONSE;
 
 impl Bus {
     ghost use Rattle.gb_bus.specs.Delivering.{DeliversAs};
@@ -132,7 +130,7 @@ impl Bus {
             result }
         ensures few { (128 ≤ kind → AreFew (shown code payload)) → IsOk result }
     {
-        if kind >= FIRST_RESPONSE {
+        if kind >= RESPONSE {
             return self.labelled(k, side, label, code, payload);
         }
         Ok(Arrival::Ask {

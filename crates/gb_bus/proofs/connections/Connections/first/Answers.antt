@@ -6,6 +6,6 @@ use Rattle.gb_bus.proofs.connections.Connections.first.Goals as goal
 
 pub returns : goal.returns
 returns c =
-    earliest-is c.self.inside.live c.self.inside.ends c.self.inside.queues c.first.result
+    earliest-is c.self.inside.live.map c.self.inside.ends c.self.inside.queues c.first.result
     c.self.invariant c.first.ensures
     ∙ ap earliest_in c.self.view_is

@@ -7,7 +7,7 @@ use Rattle.gb_bus.proofs.connections.Connections.known.Goals as goal
 
 pub loop-number-init : goal.loop-number-init
 loop-number-init c =
-    let start : c.into_iter-number-iterator.result ≡ c.self.inside.live.entries =
+    let start : c.into_iter-number-iterator.result ≡ c.self.inside.live.map.entries =
     c.into_iter-number-iterator.ensures.into_iter_gives.0 in (
       tt,
       tt,
@@ -15,6 +15,6 @@ loop-number-init c =
           c.new-known.ensures
           ∙ ap (λ es. map known_as (all_seen [] es))
           start
-          ∙ all-known c.self.inside.queues c.self.inside.live.entries
+          ∙ all-known c.self.inside.queues c.self.inside.live.map.entries
           ∙ ap (map known_as) c.self.view_is,
     )

@@ -1,22 +1,35 @@
 -- The answer is matched on the connection with the number.
-use Rattle.std.proofs.Common.{subst}
-use Rattle.gb_bus.proofs.SeeingChanges.{keeps}
-use Rattle.gb_bus.proofs.SeeingSides.{matches, side-ends}
-use Rattle.gb_bus.specs.Seen.{all_seen}
-use Rattle.gb_bus.specs.Sides.{MatchesAs, MatchesIn, MatchesOn}
+use Rattle.std.proofs.Common.{ap, sym, ◌∙◌}
+use Rattle.gb_bus.proofs.Keeping.{kept-same, kept-set}
+use Rattle.gb_bus.proofs.SeeingSides.{matches, matches-none, side-ends}
+use Rattle.gb_bus.specs.Seen.{all_seen, alone}
+use Rattle.gb_bus.specs.Sides.{MatchesAs}
 use Rattle.gb_bus.proofs.connections.Connections.matched.Goals as goal
 
 pub invariant_of-self : goal.invariant_of-self
 invariant_of-self c =
-    keeps c.self.inside.live c.matched.new.live c.self.inside.ends c.self.inside.queues c.args.k
-    (λ x y. MatchesOn x y c.args.side c.args.number c.args.label c.matched.result)
-    (side-ends c.args.side (λ v w. MatchesAs v w c.args.number c.args.label c.matched.result))
-    c.matched.ensures.there c.matched.ensures.nowhere c.self.invariant
+    kept-same c.self.inside.live.map c.get_mut.follows.lender-at-none.map c.self.inside.ends
+    c.self.inside.queues c.get_mut.follows.holds-at-none c.self.invariant
+
+pub returns-in_default : goal.returns-in_default
+returns-in_default c =
+    matches-none c.self.inside.live.map c.self.inside.queues c.args.self.now c.args.k c.args.side
+    c.args.number c.args.label c.self.view_is (sym c.in_default.ensures.value)
+    (ap (all_seen c.self.inside.queues) c.get_mut.follows.holds-at-none ∙ c.self.view_is)
+
+pub invariant_of-self-2 : goal.invariant_of-self-2
+invariant_of-self-2 c =
+    kept-set c.self.inside.live.map (c.get_mut.follows.lender c.matched.new.self).map
+    c.self.inside.ends c.self.inside.queues c.args.k c.in-Some.connection.now c.matched.new.self
+    (sym c.in-Some.ensures.value) (c.get_mut.follows.holds c.matched.new.self)
+    (side-ends c.args.side (λ v w. MatchesAs v w c.args.number c.args.label c.matched.result)
+    (alone 0 c.in-Some.connection.now) (alone 0 c.matched.new.self) c.matched.ensures)
+    c.self.invariant
 
 pub returns : goal.returns
 returns c =
-    subst (λ xs. MatchesIn xs (all_seen c.self.inside.queues c.matched.new.live.entries) c.args.k
-    c.args.side c.args.number c.args.label c.matched.result) c.self.view_is
-    (matches c.self.inside.live c.matched.new.live c.self.inside.ends c.self.inside.queues c.args.k
-    c.args.side c.args.number c.args.label c.matched.result c.self.invariant c.matched.ensures.there
-    c.matched.ensures.nowhere c.matched.ensures.none)
+    matches c.self.inside.live.map (c.get_mut.follows.lender c.matched.new.self).map
+    c.self.inside.ends c.self.inside.queues c.args.self.now c.args.k c.args.side c.args.number
+    c.args.label c.matched.result c.in-Some.connection.now c.matched.new.self c.self.invariant
+    c.self.view_is (sym c.in-Some.ensures.value) (c.get_mut.follows.holds c.matched.new.self)
+    c.matched.ensures

@@ -1,18 +1,37 @@
 -- The connection with the number is closed on the side of the application processor.
-use Rattle.std.proofs.Common.{ap, ◌∙◌, ◌≡◌, refl}
-use Rattle.gb_bus.proofs.SeeingChanges.{closed-ends, keeps, marked-ends, marks}
+use Rattle.std.proofs.Common.{ap, sym, ◌∙◌}
+use Rattle.gb_bus.proofs.Keeping.{kept-same, kept-set}
+use Rattle.gb_bus.proofs.SeeingChanges.{changes-one, closed-ends, filled}
+use Rattle.gb_bus.proofs.SeeingChanges.{marked-ends, nothing-changes}
 use Rattle.gb_bus.specs.Parts.{closed, numbered}
+use Rattle.gb_bus.specs.Seen.{all_seen, alone}
 use Rattle.gb_machine.specs.Lists.{at_first}
 use Rattle.gb_bus.proofs.connections.Connections.shut.Goals as goal
 
 pub invariant_of-self : goal.invariant_of-self
 invariant_of-self c =
-    keeps c.self.inside.live c.shut.new.live c.self.inside.ends c.self.inside.queues c.args.k
-    (λ x y. y ≡ closed x) (marked-ends closed closed-ends) c.shut.ensures.there
-    c.shut.ensures.nowhere c.self.invariant
+    kept-same c.self.inside.live.map c.get_mut.follows.lender-at-none.map c.self.inside.ends
+    c.self.inside.queues c.get_mut.follows.holds-at-none c.self.invariant
+
+pub returns-in_default : goal.returns-in_default
+returns-in_default c =
+    ap (all_seen c.self.inside.queues) c.get_mut.follows.holds-at-none
+    ∙ c.self.view_is
+    ∙ nothing-changes c.self.inside.live.map c.self.inside.queues c.args.self.now c.args.k closed
+    c.self.view_is (sym c.in_default.ensures.value)
+
+pub invariant_of-self-2 : goal.invariant_of-self-2
+invariant_of-self-2 c =
+    kept-set c.self.inside.live.map (c.get_mut.follows.lender c.shut.new.self).map
+    c.self.inside.ends c.self.inside.queues c.args.k c.in-Some.connection.now c.shut.new.self
+    (sym c.in-Some.ensures.value) (c.get_mut.follows.holds c.shut.new.self)
+    (marked-ends closed closed-ends (alone 0 c.in-Some.connection.now) (alone 0 c.shut.new.self)
+    c.shut.ensures) c.self.invariant
 
 pub returns : goal.returns
 returns c =
-    marks c.self.inside.live c.shut.new.live c.self.inside.ends c.self.inside.queues c.args.k
-    closed (λ x. refl) c.self.invariant c.shut.ensures.there c.shut.ensures.nowhere
+    changes-one c.self.inside.live.map (c.get_mut.follows.lender c.shut.new.self).map
+    c.self.inside.ends c.self.inside.queues c.args.k c.in-Some.connection.now c.shut.new.self closed
+    c.self.invariant (sym c.in-Some.ensures.value) (c.get_mut.follows.holds c.shut.new.self)
+    (ap (filled c.self.inside.queues c.args.k) c.shut.ensures)
     ∙ ap (at_first (numbered c.args.k) closed) c.self.view_is

@@ -1,18 +1,37 @@
 -- The connection with the number is unclean.
-use Rattle.std.proofs.Common.{ap, ◌∙◌, ◌≡◌, refl}
-use Rattle.gb_bus.proofs.SeeingChanges.{keeps, marked-ends, marks, soiled-ends}
+use Rattle.std.proofs.Common.{ap, sym, ◌∙◌}
+use Rattle.gb_bus.proofs.Keeping.{kept-same, kept-set}
+use Rattle.gb_bus.proofs.SeeingChanges.{changes-one, filled, marked-ends}
+use Rattle.gb_bus.proofs.SeeingChanges.{nothing-changes, soiled-ends}
 use Rattle.gb_bus.specs.Parts.{numbered, soiled}
+use Rattle.gb_bus.specs.Seen.{all_seen, alone}
 use Rattle.gb_machine.specs.Lists.{at_first}
 use Rattle.gb_bus.proofs.connections.Connections.soil.Goals as goal
 
 pub invariant_of-self : goal.invariant_of-self
 invariant_of-self c =
-    keeps c.self.inside.live c.soil.new.live c.self.inside.ends c.self.inside.queues c.args.k
-    (λ x y. y ≡ soiled x) (marked-ends soiled soiled-ends) c.soil.ensures.there
-    c.soil.ensures.nowhere c.self.invariant
+    kept-same c.self.inside.live.map c.get_mut.follows.lender-at-none.map c.self.inside.ends
+    c.self.inside.queues c.get_mut.follows.holds-at-none c.self.invariant
+
+pub returns-in_default : goal.returns-in_default
+returns-in_default c =
+    ap (all_seen c.self.inside.queues) c.get_mut.follows.holds-at-none
+    ∙ c.self.view_is
+    ∙ nothing-changes c.self.inside.live.map c.self.inside.queues c.args.self.now c.args.k soiled
+    c.self.view_is (sym c.in_default.ensures.value)
+
+pub invariant_of-self-2 : goal.invariant_of-self-2
+invariant_of-self-2 c =
+    kept-set c.self.inside.live.map (c.get_mut.follows.lender c.soil.new.self).map
+    c.self.inside.ends c.self.inside.queues c.args.k c.in-Some.connection.now c.soil.new.self
+    (sym c.in-Some.ensures.value) (c.get_mut.follows.holds c.soil.new.self)
+    (marked-ends soiled soiled-ends (alone 0 c.in-Some.connection.now) (alone 0 c.soil.new.self)
+    c.soil.ensures) c.self.invariant
 
 pub returns : goal.returns
 returns c =
-    marks c.self.inside.live c.soil.new.live c.self.inside.ends c.self.inside.queues c.args.k
-    soiled (λ x. refl) c.self.invariant c.soil.ensures.there c.soil.ensures.nowhere
+    changes-one c.self.inside.live.map (c.get_mut.follows.lender c.soil.new.self).map
+    c.self.inside.ends c.self.inside.queues c.args.k c.in-Some.connection.now c.soil.new.self soiled
+    c.self.invariant (sym c.in-Some.ensures.value) (c.get_mut.follows.holds c.soil.new.self)
+    (ap (filled c.self.inside.queues c.args.k) c.soil.ensures)
     ∙ ap (at_first (numbered c.args.k) soiled) c.self.view_is

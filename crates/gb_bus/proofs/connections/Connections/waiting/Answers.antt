@@ -8,6 +8,6 @@ pub returns : goal.returns
 returns c =
     c.in_ok-waiting.ensures
     ∙ ap (map (waiting_at c.self.inside.queues)) c.items.ensures
-    ∙ waiting-is c.self.inside.live c.self.inside.ends c.self.inside.queues c.in_ok-ends.ends
+    ∙ waiting-is c.self.inside.live.map c.self.inside.ends c.self.inside.queues c.in_ok-ends.ends
     c.self.invariant c.in_ok-ends.ensures.lists
     ∙ ap waiting_in c.self.view_is

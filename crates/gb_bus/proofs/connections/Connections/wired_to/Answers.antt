@@ -8,7 +8,7 @@ use Rattle.gb_bus.proofs.connections.Connections.wired_to.Goals as goal
 
 pub loop-number-init : goal.loop-number-init
 loop-number-init c =
-    let start : c.into_iter-number-iterator.result ≡ c.self.inside.live.entries =
+    let start : c.into_iter-number-iterator.result ≡ c.self.inside.live.map.entries =
     c.into_iter-number-iterator.ensures.into_iter_gives.0 in (
       tt,
       tt,
@@ -16,6 +16,6 @@ loop-number-init c =
           (all_seen [] c.into_iter-number-iterator.result))) c.new-numbers.ensures
           ∙ ap (λ es. map (λ x. x.number) (filter (is_wired_to c.args.intf) (all_seen [] es)))
           start
-          ∙ numbers-wired c.self.inside.queues c.args.intf c.self.inside.live.entries
+          ∙ numbers-wired c.self.inside.queues c.args.intf c.self.inside.live.map.entries
           ∙ ap (λ cs. map (λ x. x.number) (filter (is_wired_to c.args.intf) cs)) c.self.view_is,
     )
