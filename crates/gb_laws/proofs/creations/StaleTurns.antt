@@ -16,7 +16,8 @@ use Rattle.gb_invariants.proofs.Outcomes.{both-true, is-same, same-number}
 use Rattle.gb_invariants.proofs.{Awaiting.not-both, Found.find-none, HostChanges.IsAnswered}
 use Rattle.gb_invariants.proofs.{Lists.found-in, Lists.in-without}
 use Rattle.gb_invariants.proofs.HostChanges.{Notice, at_removal, turn_of}
-use Rattle.gb_laws.proofs.links.LinkKept.{InsertsAbsent, same-links, turn-fits}
+use Rattle.gb_laws.proofs.links.LinkKept.{InsertsAbsent, allowed}
+use Rattle.gb_laws.proofs.links.LinkTurns.{turn-fits}
 use Rattle.gb_laws.proofs.links.LinkLeaves.{WhyLeft, closed, removed, why-left}
 use Rattle.gb_laws.proofs.links.Links.{IsFollowed, leaves, stays}
 use Rattle.gb_laws.proofs.points.PointParts.{IsCaused, IsDeparting, Point, resting}
@@ -133,8 +134,8 @@ module _ (m : Moment) (absent : InsertsAbsent m) (i : ℕ)
               a.state.host.links l g in
               let on = same-number l.connection s.connection found.1 in
               inr (followed l found.0 on
-              ((turn-fits m a.state.bus e a.state.host absent cause links.host).followed l
-              (subst (λ ls. IsIn l ls) (sym (same-links e a.state.host)) found.0)))
+              ((turn-fits e (allowed m absent e a.state.host cause) links.host).followed l
+              found.0))
 
       -- where the removal is handled
       departs : Goes → IsDeparting m i a.state.host

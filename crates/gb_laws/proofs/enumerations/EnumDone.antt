@@ -72,15 +72,15 @@ module _ (i : ℕ) where
       (λ x. refl) (λ x e. absurd (failed-none e)) d
   change-done _ h finds d = d
 
-  end-done : (p : Purpose) (x : HostEnd) (h : Host) → IsLast (at_unsent p) h x
-      → FewerDone h (end_of x h).host
-  end-done p (HostEnd.enumerates q bytes) h last = absurd last
-  end-done p _ h last = λ d. d
+  end-done : (p : Purpose) (before : Host) (x : HostEnd) (h : Host)
+      → IsLast (at_unsent p before) h x → FewerDone h (end_of x h).host
+  end-done p before (HostEnd.enumerates q bytes) h last = absurd last
+  end-done p before _ h last = λ d. d
 
   -- no identifier is left
   pub done-unsent : (p : Purpose) (h : Host) → FewerDone h (unsent p h).host
   done-unsent p h = over-unsent p h (record {
     says = λ g t. FewerDone g t.host;
-    ends = λ x g last. end-done p x g last;
+    ends = λ x g last. end-done p h x g last;
     over = λ x g t finds why s d. change-done x g finds (s d);
   })

@@ -33,7 +33,7 @@ use Rattle.gb_invariants.proofs.OverTurns.{over-turn}
 use Rattle.gb_laws.proofs.firmware.ImageFacts.{Fewer, Steps, all-fewer, forgotten-fewer, same-fewer}
 use Rattle.gb_laws.proofs.firmware.ImageFacts.{steps-read, then-fewer}
 use Rattle.gb_laws.proofs.links.LinkActs.{awaited-host}
-use Rattle.gb_laws.proofs.links.Turned.{svc-host}
+use Rattle.gb_laws.proofs.links.LinkActs.{svc-host}
 use Rattle.gb_laws.proofs.points.PointParts.{Point}
 use Rattle.gb_laws.proofs.points.Points.{Change, IsServed, acts_asked, acts_failed, changed, gives}
 use Rattle.gb_laws.proofs.points.Points.{serves, turns}
@@ -68,7 +68,7 @@ turn-fewer : (e : Notice) (h : Host) → Fewer h.images (turn_of e h).host.image
 turn-fewer e h = over-turn e h (fewer_law (at_notice e h))
 
 unsent-fewer : (p : Purpose) (h : Host) → Fewer h.images (unsent p h).host.images
-unsent-fewer p h = over-unsent p h (fewer_law (at_unsent p))
+unsent-fewer p h = over-unsent p h (fewer_law (at_unsent p h))
 
 awaited-images : (p : Purpose) (n : ℕ) (s : State)
     → (with_awaited p n s).host.images ≡ s.host.images

@@ -118,18 +118,19 @@ pub fit-other : (m : Moment) (e : Notice) (h : Host)
     → AreEverFit m (turn_of e h).acts
 fit-other m e h other cause =
     over-turn e h (fit_law (λ k. (b : Bus) → IsShutFor m k b) (at_notice e h)
-    (λ i c l g why found. closing i c l g found why) (λ i l g why j b.
+    (λ i c l g why found. closing i c l (ap (link_at i c) (sym why.1) ∙ found) why.0)
+    (λ i l g why j b.
     let k = subst (λ y. IsCaused m y h) why.0 cause in
     let of = in-filter (λ (x : Link). x.intf == i) g.links l j in
     removed k.primary i l k.noticed k.known (filter-in (λ (x : Link). x.intf == i)
     m.before.host.links l (k.links l (subst (λ (y : Host). IsIn l y.links) why.1 of.0)) of.1) refl))
   where
-    closing : (i c : ℕ) (l : Link) (g : Host) → link_at i c g ≡ Some l
-        → IsClosingFor (at_notice e h) g i c → (b : Bus) → IsShutFor m l.connection b
-    closing i c l g found (by_disconnect why) b =
-        let k = subst (λ y. IsCaused m y h) why.0 cause in
-        disconnected i c l k.1 (ap (link_at i c) (sym (why.1 ∙ k.0)) ∙ found) refl
-    closing i c l g found (by_idle d why intf cport) b = absurd (other why.0.number why.0.is)
+    closing : (i c : ℕ) (l : Link) → link_at i c h ≡ Some l
+        → IsClosingFor e h i c → (b : Bus) → IsShutFor m l.connection b
+    closing i c l found (by_disconnect is) b =
+        let k = subst (λ y. IsCaused m y h) is cause in
+        disconnected i c l k.1 (ap (link_at i c) (sym k.0) ∙ found) refl
+    closing i c l found (by_idle d why intf cport) b = absurd (other why.number why.is)
 
 -- where one is, its side is closed first
 fit-idle : (m : Moment) (b : Bus) (k : ℕ) (h : Host) → FirstDrains h.links
@@ -179,5 +180,5 @@ tells-quiet Cause (e ∷ es) h = (h.0, tells-quiet Cause es h.1)
 -- what is told where a request can't be made
 pub quiet-unsent : (p : Purpose) (h : Host) → AreQuiet (unsent p h).told
 quiet-unsent p h = tells-quiet (λ k. Unit {0}) (unsent p h).told
-    (over-unsent p h (fit_law (λ k. Unit {0}) (at_unsent p) (λ i c l g why found. tt)
+    (over-unsent p h (fit_law (λ k. Unit {0}) (at_unsent p h) (λ i c l g why found. tt)
     (λ i l g why j. tt)))

@@ -148,4 +148,4 @@ drains-turn e h = over-turn e h (drains_law (at_notice e h))
 
 pub drains-unsent : (p : Purpose) (h : Host) → FirstDrains h.links
     → FirstDrains (unsent p h).host.links
-drains-unsent p h = over-unsent p h (drains_law (at_unsent p))
+drains-unsent p h = over-unsent p h (drains_law (at_unsent p h))

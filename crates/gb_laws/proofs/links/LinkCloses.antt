@@ -16,7 +16,7 @@ use Rattle.gb_machine.specs.{Bus.Bus, Failures.unsent, Members.IsIn, SequenceSte
 use Rattle.gb_machine.specs.{Sequences.enumerated, Waits.waiting}
 use Rattle.gb_invariants.proofs.HostChanges.{Completes, Finds, HostChange, HostEnd, IsFor, IsLast}
 use Rattle.gb_invariants.proofs.HostChanges.{MayTurnTo, Occasion, TurnLaw, acts_by, at_notice}
-use Rattle.gb_invariants.proofs.HostChanges.{at_unsent, by_disconnect, by_idle, end_of, host_after}
+use Rattle.gb_invariants.proofs.HostChanges.{at_unsent, end_of, host_after}
 use Rattle.gb_invariants.proofs.Lists.{found-in, in-behind, in-front, in-without}
 use Rattle.gb_invariants.proofs.{Awaiting.same-some, Found.in-first, OverTurns.over-turn}
 use Rattle.gb_invariants.proofs.{OverFailures.over-unsent}
@@ -209,21 +209,21 @@ closes-turn e {h} fits =
     over-turn e h (closes_law (at_notice e h) (last-closing e h fits))
 
 -- where a request can't be made
-none-closed : (p : Purpose) (x : HostChange) (h : Host) → IsFor (at_unsent p) h x → ClosesNone x
-none-closed p (HostChange.closes i c l) h (by_disconnect why) = absurd why
-none-closed p (HostChange.closes i c l) h (by_idle d why intf cport) = absurd why
-none-closed p _ h why = tt
+none-closed : (p : Purpose) (before : Host) (x : HostChange) (h : Host)
+    → IsFor (at_unsent p before) h x → ClosesNone x
+none-closed p before (HostChange.closes i c l) h why = absurd why
+none-closed p before _ h why = tt
 
-end-fewer : (p : Purpose) (x : HostEnd) (h : Host) → IsLast (at_unsent p) h x
-    → ClosesFewer h (end_of x h).host
-end-fewer p HostEnd.rests h last = λ n y. y
-end-fewer p (HostEnd.asks k q) h last = absurd last.0
-end-fewer p (HostEnd.makes a protocol q) h last = absurd last
-end-fewer p (HostEnd.enumerates q bytes) h last = absurd last
+end-fewer : (p : Purpose) (before : Host) (x : HostEnd) (h : Host)
+    → IsLast (at_unsent p before) h x → ClosesFewer h (end_of x h).host
+end-fewer p before HostEnd.rests h last = λ n y. y
+end-fewer p before (HostEnd.asks k q) h last = absurd last.0
+end-fewer p before (HostEnd.makes a protocol q) h last = absurd last.0
+end-fewer p before (HostEnd.enumerates q bytes) h last = absurd last
 
 pub fewer-unsent : (p : Purpose) (h : Host) → ClosesFewer h (unsent p h).host
 fewer-unsent p h = over-unsent p h (record {
   says = λ g t. ClosesFewer g t.host;
-  ends = λ x g last. end-fewer p x g last;
-  over = λ x g t finds why s n y. change-fewer x g finds (none-closed p x g why) n (s n y);
+  ends = λ x g last. end-fewer p h x g last;
+  over = λ x g t finds why s n y. change-fewer x g finds (none-closed p h x g why) n (s n y);
 })

@@ -1,26 +1,22 @@
--- The facts of the application processor's connections go over the end of a request.
+-- What is known once a sequence waits no more for a request that ended.
 use Rattle.std.proofs.Common.{Bool, List, None, Option, Some, ap, cond, false, inl, inr, refl}
 use Rattle.std.proofs.Common.{subst, sym, true, ℕ, [], ◌∙◌, ◌∷◌, ◌≡◌, ◌≢◌}
 use Rattle.std.specs.List.{find}
 use Rattle.std.specs.Prelude.{option_map, ◌==◌}
 use Rattle.gb_base.specs.declared.entry.ConnState.{ConnState}
-use Rattle.gb_base.specs.declared.outcome.Outcome.{Outcome}
 use Rattle.gb_base.specs.declared.interface.{Interface.Interface, Link.Link}
 use Rattle.gb_base.specs.declared.steps.{Purpose.Purpose, SequenceStep.SequenceStep}
 use Rattle.gb_base.specs.declared.steps.SequenceStep.TheVariants as steps
 use Rattle.gb_machine.specs.Host.{Host, is_link, with_interface, with_link}
 use Rattle.gb_machine.specs.Waits.{awaited, awaits_nothing, interface_waits, link_waits, purpose_in}
-use Rattle.gb_machine.specs.{Bus.Bus, Bus.or_else, HostTurns.ended_for, HostTurns.host_ended}
+use Rattle.gb_machine.specs.{Bus.Bus, Bus.or_else, Turns.turn}
 use Rattle.gb_machine.specs.{Lists.at_first, Members.IsIn, SequenceSteps.is_enumeration}
-use Rattle.gb_machine.specs.{SequenceSteps.purpose, Sequences.payload_in}
+use Rattle.gb_machine.specs.{SequenceSteps.purpose}
 use Rattle.gb_invariants.proofs.{Awaiting.none-some, Awaiting.same-some, Found.find-changed}
-use Rattle.gb_laws.proofs.links.LinkFails.{fits-through, followed-same, waits-not}
-use Rattle.gb_laws.proofs.links.LinkHosts.{Onto, awaits-link, host-interface, host-link, kept-same}
-use Rattle.gb_laws.proofs.links.LinkHosts.{onto-interface, onto-link, present-changed}
-use Rattle.gb_laws.proofs.links.Links.{HasNoControl, HostFits, IsAtStep, IsDue, IsDueBy, TurnFits}
-use Rattle.gb_laws.proofs.links.Links.{is_early}
+use Rattle.gb_laws.proofs.links.LinkFits.{TurnFits, fits-link, fits-same, waits-not}
+use Rattle.gb_laws.proofs.links.LinkHosts.{awaits-link, host-interface, present-changed}
+use Rattle.gb_laws.proofs.links.Links.{HasNoControl, HostFits, IsAtStep, IsDue, IsDueBy, is_early}
 use Rattle.gb_laws.proofs.{links.LinkLists.found-at, links.LinkLists.in-only}
-use Rattle.gb_laws.proofs.{links.LinkSteps.fits-answered}
 
 -- ---- a request ended
 
@@ -122,11 +118,10 @@ step-connects steps.TellDisconnected s h = refl
 step-connects steps.DestroyConnection s h = refl
 step-connects _ s h = absurd h
 
--- What is known once a sequence waits no more for a request that ended.
+-- It waits no more: its step is due.
 pub record Resumed (b : Bus) (p : Purpose) (h g : Host) : Type 0 where
-  pub host : HostFits b g
+  pub fits : TurnFits b h (turn g [])
   pub due : IsDue p.step p g
-  pub onto : Onto h g
 
 abbrev idle_link : Link → Link
 idle_link l = record l { awaits = None }
@@ -136,8 +131,8 @@ resumed-interface : (b : Bus) (p : Purpose) (h : Host) → HostFits b h → (x :
     → is_enumeration p.step ≡ true → (is_early p.step ≡ true → HasNoControl x.intf h.links)
     → Resumed b p h (with_interface p.intf (λ y. record y { awaits = None }) h)
 resumed-interface b p h fits x i at zero_cport is none = record {
-  host = host-interface p.intf (λ y. record y { awaits = None }) (λ y. refl)
-      (λ y j e old w f. absurd (none-some f)) fits;
+  fits = fits-same [] refl (host-interface p.intf (λ y. record y { awaits = None }) (λ y. refl)
+      (λ y j e old w f. absurd (none-some f)) fits);
   due = subst (λ t. IsDueBy t p.step p (with_interface p.intf (λ y. record y { awaits = None }) h))
       (sym is) (record {
         cport = zero_cport;
@@ -148,14 +143,13 @@ resumed-interface b p h fits x i at zero_cport is none = record {
             present-changed p.intf (λ y. record y { awaits = None }) (λ y. refl)
             (record { interface = x; known = i; is = sym at });
       });
-  onto = onto-interface p.intf (λ y. record y { awaits = None }) (λ y. refl);
 }
 
 resumed-link : (b : Bus) (p : Purpose) (h : Host) → HostFits b h → (l : Link) → IsIn l h.links
     → p.intf ≡ l.intf → p.cport ≡ l.cport → (l.cport ≢ 0) → IsAtStep p.step l.state
     → Resumed b p h (with_link p.intf p.cport (λ k. record k { awaits = None }) h)
 resumed-link b p h fits l i intf cport other at = record {
-  host = host-link p.intf p.cport (λ k. record k { awaits = None }) (awaits-link None)
+  fits = fits-link p.intf p.cport (λ k. record k { awaits = None }) [] (awaits-link None)
       (λ k j f v. waits-not (record k { awaits = None }) refl)
       (λ k j f d. record { cport = d.cport; takes = d.takes }) (λ k j f d. d) fits;
   due = subst (λ t. IsDueBy t p.step p
@@ -165,7 +159,6 @@ resumed-link b p h fits l i intf cport other at = record {
         idle = λ y f. ap (λ (x : Link). x.awaits) (sym (is-it y f));
         state = λ y f. subst (λ (x : Link). IsAtStep p.step x.state) (is-it y f) at;
       });
-  onto = onto-link p.intf p.cport (λ k. record k { awaits = None }) (awaits-link None);
 }
   where
     is-it : (y : Link) → find (is_link p.intf p.cport)
@@ -205,19 +198,3 @@ waits-for n {h} p fits e = by (interface_waits n h.interfaces) refl e
         r.awaits r.step
     by (Some q) f e = let r = waits-interface n h.interfaces p (f ∙ e) in enumerating r.interface
         r.known r.intf r.cport r.what r.awaits r.step
-
-pub fits-ended : (b : Bus) (n : ℕ) (how : Outcome) (h : Host) → HostFits b h
-    → TurnFits b h (host_ended n how h)
-fits-ended b n how h fits = by (awaited n h) refl
-  where
-    by : (o : Option Purpose) → awaited n h ≡ o → TurnFits b h (ended_for o how h)
-    by None e = record {
-      host = fits;
-      pending = tt;
-      followed = followed-same;
-      kept = kept-same h.interfaces;
-    }
-    by (Some p) e =
-        let r = resumed b p h fits (waits-for n p fits e) in
-        fits-through b h (awaits_nothing p h) _ r.onto
-        (fits-answered b (payload_in how) p r.host r.due)

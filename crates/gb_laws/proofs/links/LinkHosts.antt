@@ -9,13 +9,12 @@ use Rattle.gb_base.specs.declared.steps.{Purpose.Purpose, SequenceStep.SequenceS
 use Rattle.gb_formats.specs.Images.{Images}
 use Rattle.gb_machine.specs.Host.{Host, in_state, is_intf, is_link, with_interface, with_link}
 use Rattle.gb_machine.specs.{Bus.Bus, Lists.at_first, Lists.without, Members.IsIn}
-use Rattle.gb_machine.specs.{SequenceSteps.at_step}
 use Rattle.gb_invariants.proofs.Lists.{at_first-back, filter-in, found-in, in-without, two-at_first}
 use Rattle.gb_invariants.proofs.Lists.{two-filter}
 use Rattle.gb_invariants.proofs.Found.{in-first}
 use Rattle.gb_laws.proofs.links.Links.{AreOther, DrainsPlain, HasNoControl, HostFits, IsDeaf}
 use Rattle.gb_laws.proofs.links.Links.{IsEnumerating, IsLinkBefore, IsNext, IsNumbered, IsPresent}
-use Rattle.gb_laws.proofs.links.Links.{IsResting, IsWaiting, LinksFit, SameLink, is_early}
+use Rattle.gb_laws.proofs.links.Links.{IsResting, IsWaiting, LinksFit, SameLink}
 
 pub same-link : (l : Link) → SameLink l l
 same-link l = record { connection = refl; ap = refl; intf = refl; cport = refl; protocol = refl }
@@ -111,6 +110,29 @@ pub stay-changed : (ls : List Link) (i c : ℕ) (f : Link → Link) → ((l : Li
 stay-changed ls i c f same l j =
     ⊎_elim (λ o. (l, o, same-link l)) (λ w. (f l, w, same l)) (at_first-back (is_link i c) f ls l j)
 
+-- each connection comes from one of these, and takes nothing where that doesn't
+abbrev pub ComeFrom : List Link → List Link → Type 0
+ComeFrom ls after = (l : Link) → IsIn l after
+    → (k : Link) × IsIn k ls × SameLink k l × (IsDeaf k → IsDeaf l)
+
+pub come-same : (ls : List Link) → ComeFrom ls ls
+come-same ls l i = (l, i, same-link l, λ d. d)
+
+pub come-then : (ls ks js : List Link) → ComeFrom ls ks → ComeFrom ks js → ComeFrom ls js
+come-then ls ks js a b l i =
+    let k = b l i in
+    let j = a k.0 k.1 in (j.0, j.1, then-same l j.2 k.2, λ d. k.3 (j.3 d))
+
+pub come-changed : (ls : List Link) (i c : ℕ) (f : Link → Link) → ((l : Link) → SameLink l (f l))
+    → ((l : Link) → IsIn l ls → find (is_link i c) ls ≡ Some l → IsDeaf l → IsDeaf (f l))
+    → ComeFrom ls (at_first (is_link i c) f ls)
+come-changed ls i c f same deaf l j = ⊎_elim (λ o. (l, o, same-link l, λ d. d)) (λ w. (
+  w.0,
+  w.1,
+  subst (SameLink w.0) (sym w.3) (same w.0),
+  λ d. subst IsDeaf (sym w.3) (deaf w.0 w.1 w.2 d),
+)) (in-first (is_link i c) f ls l j)
+
 none-changed : (j : ℕ) (ls : List Link) (i c : ℕ) (f : Link → Link)
     → ((l : Link) → SameLink l (f l)) → HasNoControl j ls
     → HasNoControl j (at_first (is_link i c) f ls)
@@ -179,55 +201,7 @@ host-interface i f {h} same enumerating fits = record {
   present = λ l j. present-changed i f same (fits.present l j);
 }
 
--- ---- what stays of a host
-
--- its connections stay, and each interface was known
-pub record Onto (h g : Host) : Type 0 where
-  pub stay : Stay h.links g.links
-  pub kept : (x : Interface) → IsIn x g.interfaces → IsPresent x.intf h.interfaces
-
-pub kept-same : (xs : List Interface) (x : Interface) → IsIn x xs → IsPresent x.intf xs
-kept-same xs x i = record { interface = x; known = i; is = refl }
-
-pub onto-same : (h : Host) → Onto h h
-onto-same h = record { stay = stay-same h.links; kept = kept-same h.interfaces }
-
-pub onto-link : {h : Host} (i c : ℕ) (f : Link → Link) → ((l : Link) → SameLink l (f l))
-    → Onto h (with_link i c f h)
-onto-link {h} i c f same = record {
-  stay = stay-changed h.links i c f same;
-  kept = kept-same h.interfaces;
-}
-
-pub onto-interface : {h : Host} (i : ℕ) (f : Interface → Interface)
-    → ((x : Interface) → (f x).intf ≡ x.intf) → Onto h (with_interface i f h)
-onto-interface {h} i f same = record {
-  stay = stay-same h.links;
-  kept = λ x j. ⊎_elim (λ o. kept-same h.interfaces x o) (λ w. record {
-    interface = w.0;
-    known = w.1;
-    is = sym (ap (λ (y : Interface). y.intf) w.3 ∙ same w.0);
-  }) (in-first (is_intf i) f h.interfaces x j);
-}
-
-pub onto-then : (h : Host) {g : Host} (k : Host) → Onto h g → Onto g k → Onto h k
-onto-then h k a b = record {
-  stay = λ l i. let s =
-      a.stay l i in let t = b.stay s.0 s.1 in (t.0, t.1, then-same t.0 s.2 t.2);
-  kept = λ x i. let p = b.kept x i in let q = a.kept p.interface p.known in
-      record { interface = q.interface; known = q.known; is = q.is ∙ p.is };
-}
-
 -- ---- steps of an enumeration that are due
-
-pub next-to : {step to : SequenceStep} {p : Purpose} {h : Host}
-    → (is_early to ≡ true → is_early step ≡ true) → IsNext step p h → IsNext to (at_step to p) h
-next-to early n = record {
-  cport = n.cport;
-  none = λ e. n.none (early e);
-  idle = n.idle;
-  present = n.present;
-}
 
 pub next-interface : {step : SequenceStep} {p : Purpose} (h : Host) (j : ℕ)
     (f : Interface → Interface) → ((x : Interface) → (f x).intf ≡ x.intf)
@@ -255,6 +229,9 @@ links-without b test {ls} h = record {
 pub none-without : (i : ℕ) (test : Link → Bool) (ls : List Link) → HasNoControl i ls
     → HasNoControl i (without test ls)
 none-without i test ls none l j = none l (in-without test ls l j).0
+
+pub come-without : (test : Link → Bool) (ls : List Link) → ComeFrom ls (without test ls)
+come-without test ls l j = (l, (in-without test ls l j).0, same-link l, λ d. d)
 
 pub without-in : (test : Link → Bool) (ls : List Link) (l : Link) → IsIn l ls → test l ≡ false
     → IsIn l (without test ls)

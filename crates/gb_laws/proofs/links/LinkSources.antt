@@ -133,4 +133,4 @@ from-turn e h = over-turn e h (from_law (at_notice e h))
 
 -- So does what fails where a request can't be made.
 pub from-unsent : (p : Purpose) (h : Host) → LinksFrom None h (unsent p h).host
-from-unsent p h = over-unsent p h (from_law (at_unsent p))
+from-unsent p h = over-unsent p h (from_law (at_unsent p h))

@@ -110,4 +110,4 @@ turns-tell e h = over-turn e h (tells_law (at_notice e h))
 
 -- where a request can't be made
 pub unsent-told : (p : Purpose) (h : Host) → Each (TellsLink h) (unsent p h).told
-unsent-told p h = told-acts h (unsent p h).told (over-unsent p h (tells_law (at_unsent p)))
+unsent-told p h = told-acts h (unsent p h).told (over-unsent p h (tells_law (at_unsent p h)))

@@ -61,7 +61,7 @@ fewer-waiting w p h = by (is_enumeration p.step)
 -- what an occasion makes known
 abbrev pub IsNew : Occasion → ℕ → ℕ → Type 0
 IsNew (at_notice x before) i p = x ≡ at_insertion p i
-IsNew (at_unsent q) i p = ⊥
+IsNew (at_unsent q before) i p = ⊥
 
 -- an interface was known, or is inserted on this occasion
 abbrev pub WasNamed : Occasion → ℕ → ℕ → Host → Type 0
@@ -80,7 +80,7 @@ module _ (o : Occasion) where
           → IsNew o y.intf y.primary
       new (at_notice x before) why e = why.0
           ∙ ap (λ (z : Interface). at_insertion z.primary z.intf) (sym e)
-      new (at_unsent q) why e = why
+      new (at_unsent q before) why e = why
   change-named (HostChange.departs i) h finds why y k =
       inl (named-one h y (in-without (is_intf i) h.interfaces y k).0)
   change-named (HostChange.resumes p) h finds why y k = inl (fewer-waiting None p h y k)
@@ -121,7 +121,7 @@ turn-named x h = over-turn x h (named_law (at_notice x h))
 -- where a request can't be made
 pub unsent-named : (p : Purpose) (h : Host) → NamesFewer h (unsent p h).host
 unsent-named p h y k =
-    ⊎_elim (λ n. n) (λ n. absurd n) (over-unsent p h (named_law (at_unsent p)) y k)
+    ⊎_elim (λ n. n) (λ n. absurd n) (over-unsent p h (named_law (at_unsent p h)) y k)
 
 -- where a sequence waits for a request
 pub awaited-named : (p : Purpose) (n : ℕ) (s : State) → NamesFewer s.host (with_awaited p n s).host

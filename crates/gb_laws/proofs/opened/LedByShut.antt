@@ -105,4 +105,4 @@ tells-led So [] led = tt
 tells-led So (e ∷ es) led = (led.0, tells-led So es led.1)
 
 pub led-unsent : (So : ℕ → Type 0) (p : Purpose) (h : Host) → Each (TellsOf So) (unsent p h).told
-led-unsent So p h = tells-led So (unsent p h).told (over-unsent p h (led_law So (at_unsent p)))
+led-unsent So p h = tells-led So (unsent p h).told (over-unsent p h (led_law So (at_unsent p h)))
