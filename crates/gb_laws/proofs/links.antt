@@ -7,6 +7,7 @@ pub mod DrainingKept
 pub mod LinkFrom
 pub mod LinkHosts
 pub mod LinkFits
+pub mod Waited
 pub mod LinkEnds
 pub mod LinkDue
 pub mod LinkAsks

@@ -30,7 +30,7 @@ use Rattle.gb_laws.proofs.{links.Departing.departing-handled, links.LinkLists.on
 use Rattle.gb_laws.proofs.{marks.Marks.MarksFit}
 use Rattle.gb_laws.proofs.{points.Points.IsOver}
 use Rattle.gb_laws.proofs.{removals.Quiet.IsQuiet, removals.Quiet.is_removed}
-use Rattle.gb_laws.proofs.{removals.QuietAwaited.waited-by}
+use Rattle.gb_laws.proofs.{links.Waited.waited-enum}
 use Rattle.gb_laws.proofs.{removals.QuietRuns.waits-before, creations.StaleBase.NoticedStill}
 use Rattle.gb_laws.proofs.{creations.StaleBase.StaleBase, svc.SvcOrder.none-earlier}
 
@@ -164,10 +164,10 @@ module _ (m : Moment) (absent : InsertsAbsent m) (i : ℕ)
       calm : (p : Purpose) → IsAnswered e a.state.host p → p.intf ≡ i
           → is_power_step p.step ≡ true → HasNoStale i b
       calm p r at power j s = ⊎_elim (λ o.
-          let x = waited-by r.number a.state.host p links.host.links.waiting r.awaited power in
+          let step = both-true (is_enumeration p.step) (not (asks_control p.step)) power in
+          let x = waited-enum r.number p links.host r.awaited step.0 in
           let own = f.own.waits x.interface x.known (r.number, p.step) x.awaits in
-          let svc = own.svc (unmarked (asks_control p.step)
-          (both-true (is_enumeration p.step) (not (asks_control p.step)) power).1) in
+          let svc = own.svc (unmarked (asks_control p.step) step.1) in
           let ended = (subst (λ y. IsOver m y a.state.bus) r.is over) r.result r.payload refl in
           let less =
           h.waits x.interface x.known (x.intf ∙ at) (r.number, p.step) x.awaits power j o in

@@ -28,7 +28,7 @@ use Rattle.gb_laws.proofs.enumerations.AskedWaits.{AsksIn, asks-behind, asks_in,
 use Rattle.gb_laws.proofs.enumerations.DoneStays.{KeepsDone, NoneRemoved, keeps-same, keeps-waiting}
 use Rattle.gb_laws.proofs.links.LinkActs.{ServedHost, as_before, awaited-host, host-served}
 use Rattle.gb_laws.proofs.links.LinkActs.{with_images, with_more}
-use Rattle.gb_laws.proofs.links.LinkEnds.{WaitsFor, connecting, enumerating, waits-for}
+use Rattle.gb_laws.proofs.links.Waited.{WaitsFor, connecting, enumerating, waited-enum, waits-for}
 use Rattle.gb_laws.proofs.links.LinkSources.{from-turn, from-unsent, from-waiting}
 use Rattle.gb_laws.proofs.links.Links.{ArePending, IsFree, IsMaking, connection, control}
 use Rattle.gb_laws.proofs.points.Points.{Change, IsAsking, acts_asked, acts_failed, acts_made}
@@ -39,7 +39,6 @@ use Rattle.gb_laws.proofs.{creations.CreatingKept.came-from}
 use Rattle.gb_laws.proofs.{creations.CreatingKept.came-link, enumerations.DoneTurns.keeps-unsent}
 use Rattle.gb_laws.proofs.{enumerations.DoneTurns.keeps_law}
 use Rattle.gb_laws.proofs.{enumerations.EnumDone.IsDone, enumerations.EnumSettled.IsSettled}
-use Rattle.gb_laws.proofs.{enumerations.EnumSettled.waited-enum}
 use Rattle.gb_laws.proofs.{links.LinkBuses.new_link, links.LinkHosts.credits-link}
 use Rattle.gb_laws.proofs.{links.LinkHosts.same-link}
 use Rattle.gb_laws.proofs.links.LinkDue.{IsAllowed, closes-idle}
@@ -107,13 +106,13 @@ module _ (m : Moment) (absent : InsertsAbsent m) (i : ℕ) (a : Point) (links : 
   -- and one of a connection one of an interface that is
   behind : (n : ℕ) (p : Purpose) → awaited n a.state.host ≡ Some p → is_enumeration p.step ≡ false
       → p.intf ≡ i → IsDone i a.state.host.interfaces
-  behind n p e s at = by (waits-for n p links.host e)
+  behind n p e s at = by (waits-for n a.state.host p e)
     where
-      by : WaitsFor a.state.host p → IsDone i a.state.host.interfaces
-      by (enumerating x j intf cport w waits step) = absurd (not-both (is_enumeration p.step)
-          (ap is_enumeration step ∙ (links.host.interfaces x j w waits).0) s)
-      by (connecting l j intf cport w waits step) =
-          h.links l j (sym intf ∙ at) (links.host.links.waiting l j w waits).0
+      by : WaitsFor a.state.host n p → IsDone i a.state.host.interfaces
+      by (enumerating x j intf cport waits) = absurd (not-both (is_enumeration p.step)
+          (links.host.interfaces x j (n, p.step) waits).0 s)
+      by (connecting l j intf cport waits) =
+          h.links l j (intf ∙ at) (links.host.links.waiting l j (n, p.step) waits).0
 
   turn-keeps : (e : Notice) → ((j : ℕ) → e ≡ at_removal j → (j == i) ≡ false)
       → KeepsDone i a.state.host (turn_of e a.state.host).host

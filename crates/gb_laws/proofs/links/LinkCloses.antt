@@ -21,7 +21,7 @@ use Rattle.gb_invariants.proofs.Lists.{found-in, in-behind, in-front, in-without
 use Rattle.gb_invariants.proofs.{Awaiting.same-some, Found.in-first, OverTurns.over-turn}
 use Rattle.gb_invariants.proofs.{OverFailures.over-unsent}
 use Rattle.gb_invariants.proofs.HostChanges.{Notice, turn_of}
-use Rattle.gb_laws.proofs.{links.LinkEnds.resumed, links.LinkEnds.waits-for, links.Links.HostFits}
+use Rattle.gb_laws.proofs.{links.LinkEnds.waited-due, links.Links.HostFits}
 use Rattle.gb_laws.proofs.{links.Links.IsDue}
 
 -- a connection with this number is closing
@@ -196,12 +196,12 @@ module _ (o : Occasion) (closed : (p : Purpose) (h : Host)
 last-closing : {b : Bus} (e : Notice) (before : Host) → HostFits b before → (p : Purpose)
     (h : Host) → Completes (at_notice e before) p steps.DestroyConnection h → (l : Link)
     → link_at p.intf p.cport h ≡ Some l → IsClosing l.connection h
-last-closing {b} e before fits p h done l found = record {
+last-closing e before fits p h done l found = record {
   link = l;
   live = (found-in (is_link p.intf p.cport) h.links l found).0;
   on = refl;
   closing = (subst (λ s. IsDue s p h) done.1 (subst (IsDue p.step p) (sym done.2)
-      (resumed b p before fits (waits-for done.0.number p fits done.0.awaited)).due)).state l found;
+      (waited-due done.0.number p fits done.0.awaited))).state l found;
 }
 
 pub closes-turn : {b : Bus} (e : Notice) {h : Host} → HostFits b h → TurnCloses h (turn_of e h)

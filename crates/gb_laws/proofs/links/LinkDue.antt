@@ -2,7 +2,6 @@
 -- from it, or fails.
 use Rattle.std.proofs.Common.{Bool, None, Option, Some, ap, arith, false, inl, inr, refl, subst}
 use Rattle.std.proofs.Common.{sym, true, ℕ, ⊎_elim, ◌∙◌, ◌≡◌, ◌≢◌, ◌≤◌}
-use Rattle.std.specs.List.{find}
 use Rattle.std.specs.Prelude.{IfSome, option_and_then, option_map, ◌==◌}
 use Rattle.gb_base.specs.declared.entry.ConnState.{ConnState}
 use Rattle.gb_base.specs.declared.entry.ConnState.TheVariants as state
@@ -31,12 +30,12 @@ use Rattle.gb_invariants.proofs.Lists.{found-in}
 use Rattle.gb_invariants.proofs.{Awaiting.none-some, Awaiting.not-both, Awaiting.same-some}
 use Rattle.gb_invariants.proofs.{Found.find-none, Found.in-ordered, Outcomes.is-same}
 use Rattle.gb_invariants.proofs.{Outcomes.same-number}
-use Rattle.gb_laws.proofs.links.LinkEnds.{WaitsFor, resumed, waits-for}
+use Rattle.gb_laws.proofs.links.LinkEnds.{Resumed, resumed, waited-due}
 use Rattle.gb_laws.proofs.links.LinkHosts.{next-interface}
-use Rattle.gb_laws.proofs.links.LinkLists.{find-changed, found-at, link-is, ordered-in}
+use Rattle.gb_laws.proofs.links.LinkLists.{find-changed, found-there, link-is, ordered-in}
 use Rattle.gb_laws.proofs.links.Links.{HasNoControl, HostFits, IsAtStep, IsDue, IsDueBy, IsPresent}
 use Rattle.gb_laws.proofs.links.Links.{IsResting, IsWaiting}
-use Rattle.gb_laws.proofs.{links.Controls.control-none}
+use Rattle.gb_laws.proofs.{links.Controls.control-none, links.Waited.waits-for}
 
 -- ---- what is noticed
 
@@ -161,10 +160,7 @@ closes-idle {h} i c l fits allowed (by_disconnect is) found =
     )
 closes-idle {h} i c l fits allowed (by_idle d why intf cport) found =
     let live = (found-in (λ y. y.connection == why.number) h.links d why.found).0 in
-    let there : link_at i c h ≡ Some d =
-    subst (λ n. find (is_link n c) h.links ≡ Some d) intf
-    (subst (λ n. find (is_link d.intf n) h.links ≡ Some d) cport
-    (found-at h.links d fits.links.rise live)) in (
+    let there = found-there h.links d fits.links.rise live intf cport in (
       λ z. fits.links.draining d live why.drains (cport ∙ z),
       ap (λ (y : Link). y.awaits) (same-some l d (sym found ∙ there))
           ∙ still-idle d (fits.links.waiting d live)
@@ -231,10 +227,6 @@ next-due steps.TellDisconnected p h due =
 next-due steps.DestroyConnection p h due = tt
 next-due _ p h due =
     record { cport = due.cport; none = λ e. due.none refl; idle = due.idle; present = due.present }
-
-waited-due : {b : Bus} {h : Host} (n : ℕ) (p : Purpose) → HostFits b h → awaited n h ≡ Some p
-    → IsDue p.step p (awaits_nothing p h)
-waited-due {b} {h} n p fits e = (resumed b p h fits (waits-for n p fits e)).due
 
 -- ---- a request is made
 
@@ -343,11 +335,12 @@ module _ (b : Bus) where
       subst (IsAllowed x) (sym why.1) (subst (λ z. IsAllowed z before) why.0 start.1)
   noticed-allowed (at_unsent q before) x h start why = absurd why
 
-  pub ends-waits : (o : Occasion) (p : Purpose) (h : Host) → Ends o p h → HostFits b h
-      → WaitsFor h p
-  ends-waits (at_notice x before) p h why fits = waits-for why.0.number p fits
-      (subst (λ g. awaited why.0.number g ≡ Some p) (sym why.1) why.0.awaited)
-  ends-waits (at_unsent q before) p h why fits = absurd why
+  pub ends-well : (o : Occasion) (p : Purpose) (h : Host) → Ends o p h → HostFits b h
+      → Resumed b p h (awaits_nothing p h)
+  ends-well (at_notice x before) p h why fits = resumed why.0.number p h fits
+      (waits-for why.0.number h p
+      (subst (λ g. awaited why.0.number g ≡ Some p) (sym why.1) why.0.awaited))
+  ends-well (at_unsent q before) p h why fits = absurd why
 
   pub closing-idle : (o : Occasion) (i c : ℕ) (l : Link) (h : Host) → Starts b o → Closes o i c h
       → link_at i c h ≡ Some l → (c ≢ 0) × (l.awaits ≡ None)

@@ -71,6 +71,11 @@ found-at (x ∷ xs) l rise (inr i) =
         absurd (not-both (is_link x.intf x.cport l) is
         (each-in (IsLinkBefore x) xs l rise.0 i).apart)
 
+pub found-there : (ls : List Link) (l : Link) {i c : ℕ} → EachTwo IsLinkBefore ls → IsIn l ls
+    → l.intf ≡ i → l.cport ≡ c → find (is_link i c) ls ≡ Some l
+found-there ls l {i} rise known intf cport = sym (ap (λ n. find (is_link n l.cport) ls) intf
+    ∙ ap (λ n. find (is_link i n) ls) cport) ∙ found-at ls l rise known
+
 -- The request of a step to a module's Control goes on its Control connection.
 pub on-control : (p : Purpose) (h : Host) (k : ℕ) → way_of p h ≡ Some k → asks_control p.step ≡ true
     → (l : Link) × IsIn l h.links × (l.connection ≡ k) × (l.cport ≡ 0)

@@ -1,7 +1,6 @@
 -- Each turn of the application processor fits its connections.
 use Rattle.std.proofs.Common.{Bool, List, None, Option, Some, ap, false, inl, inr, refl, subst}
 use Rattle.std.proofs.Common.{sym, true, ℕ, ⊎_elim, [], ◌∙◌, ◌∷◌, ◌≡◌, ◌≢◌, ◌≤◌}
-use Rattle.std.specs.List.{find}
 use Rattle.std.specs.Prelude.{not, ◌==◌}
 use Rattle.gb_base.specs.declared.entry.ConnState.{ConnState}
 use Rattle.gb_base.specs.declared.entry.ConnState.TheVariants as state
@@ -30,17 +29,16 @@ use Rattle.gb_invariants.proofs.{Found.changed-in, Found.find-none, Found.in-ord
 use Rattle.gb_invariants.proofs.{OverFailures.over-unsent, OverTurns.over-turn}
 use Rattle.gb_laws.proofs.links.LinkAsks.{fits-asking, fits-making}
 use Rattle.gb_laws.proofs.links.LinkDue.{IsAllowed, Starts, absent-other, asks-due, closing-idle}
-use Rattle.gb_laws.proofs.links.LinkDue.{completes-due, control-idle, ends-waits, fails-idle}
+use Rattle.gb_laws.proofs.links.LinkDue.{completes-due, control-idle, ends-well, fails-idle}
 use Rattle.gb_laws.proofs.links.LinkDue.{makes-free, noticed-allowed, still-idle}
 use Rattle.gb_laws.proofs.links.LinkFits.{TurnFits, fits-interface, fits-link, fits-same, fits-then}
 use Rattle.gb_laws.proofs.links.LinkFits.{waits-not}
 use Rattle.gb_laws.proofs.links.LinkHosts.{come-without, host-images, links-without, none-without}
 use Rattle.gb_laws.proofs.links.LinkHosts.{same-link, state-link, stay-changed, without-in}
-use Rattle.gb_laws.proofs.links.LinkLists.{found-at, link-is, one-link, ordered-differ}
+use Rattle.gb_laws.proofs.links.LinkLists.{found-there, link-is, one-link, ordered-differ}
 use Rattle.gb_laws.proofs.links.LinkLists.{ordered-stays}
 use Rattle.gb_laws.proofs.links.Links.{AreOther, ArePending, HostFits, IsDeaf, IsDue, IsEnumerating}
 use Rattle.gb_laws.proofs.links.Links.{IsFollowed, LinksFit, leaves, stays}
-use Rattle.gb_laws.proofs.{links.LinkEnds.resumed}
 
 -- ---- an interface comes or goes
 
@@ -234,10 +232,7 @@ fits-leaving {b} p o h found fits = by o found
         follows l i false e = stays l (without-in its h.links l i e) (same-link l)
         follows l i true e =
             let at = link-is p.intf p.cport l e in
-            let again : find its h.links ≡ Some l =
-            subst (λ x. find (is_link x p.cport) h.links ≡ Some l) at.0
-            (subst (λ x. find (is_link l.intf x) h.links ≡ Some l) at.1
-            (found-at h.links l fits.links.rise i)) in
+            let again = found-there h.links l fits.links.rise i at.0 at.1 in
             leaves (inl (ap (λ (x : Link). Act.Leave x.connection)
             (same-some l k (sym again ∙ found))))
 
@@ -286,7 +281,7 @@ module _ (b : Bus) (o : Occasion) (start : Starts b o) where
       (fits-arriving p i h fits (noticed-allowed b o (at_insertion p i) h start why))
   change-fits (HostChange.departs i) h finds why fits = fits-departing i h fits
   change-fits (HostChange.resumes p) h finds why fits =
-      (resumed b p h fits (ends-waits b o p h why fits)).fits
+      (ends-well b o p h why fits).fits
   change-fits (HostChange.updates i f) h keeps why fits =
       fits-interface i f [] keeps.intf keeps.awaits fits
   change-fits (HostChange.fails i) h finds why fits =
