@@ -107,13 +107,16 @@ awaits-fits {b} p n {h} fits due = by (is_enumeration p.step) refl due
     by false e idle = (
       host-link p.intf p.cport (λ l. record l { awaits = Some (n, p.step) })
           (awaits-link (Some (n, p.step)))
-          (λ l i found old w f. (
-            λ z. idle.cport (sym (link-is p.intf p.cport l
-                (found-in (is_link p.intf p.cport) h.links l found).1).1 ∙ z),
-            subst (λ (y : ℕ × SequenceStep). IsAtStep y.1 l.state) (same-some wait w f)
-                (idle.state l found),
-          )) (λ l i found d. record { cport = d.cport; takes = d.takes })
-          (λ l i found d. d) fits,
+          (λ l found. record {
+            waiting = λ old w f. (
+              λ z. idle.cport (sym (link-is p.intf p.cport l
+                  (found-in (is_link p.intf p.cport) h.links l found).1).1 ∙ z),
+              subst (λ (y : ℕ × SequenceStep). IsAtStep y.1 l.state) (same-some wait w f)
+                  (idle.state l found),
+            );
+            deaf = λ d. record { cport = d.cport; takes = d.takes };
+            draining = λ d. d;
+          }) fits,
       stay-changed h.links p.intf p.cport (λ l. record l { awaits = Some (n, p.step) })
           (awaits-link (Some (n, p.step))),
     )
@@ -223,8 +226,11 @@ pub linked-link : (i c : ℕ) (credits : Link → ℕ) {b : Bus} {h : Host} → 
 linked-link i c credits {h} f =
     linked-stay (host-link i c (λ l. record l { credits = credits l })
     (λ l. credits-link (credits l) l)
-    (λ l j found w v e. w v e) (λ l j found d. record { cport = d.cport; takes = d.takes })
-    (λ l j found d. d) f.host)
+    (λ l found. record {
+      waiting = λ w v e. w v e;
+      deaf = λ d. record { cport = d.cport; takes = d.takes };
+      draining = λ d. d;
+    }) f.host)
     (stay-changed h.links i c (λ l. record l { credits = credits l })
     (λ l. credits-link (credits l) l)) f
 

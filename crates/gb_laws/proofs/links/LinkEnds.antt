@@ -48,8 +48,11 @@ resumed-link : (b : Bus) (p : Purpose) (h : Host) → HostFits b h → (l : Link
     → Resumed b p h (with_link p.intf p.cport idle_link h)
 resumed-link b p h fits l i intf cport other at = record {
   fits = fits-link p.intf p.cport idle_link [] (awaits-link None)
-      (λ k j f v. waits-not (idle_link k) refl)
-      (λ k j f d. record { cport = d.cport; takes = d.takes }) (λ k j f d. d) fits;
+      (λ k f. record {
+        waiting = λ v. waits-not (idle_link k) refl;
+        deaf = λ d. record { cport = d.cport; takes = d.takes };
+        draining = λ d. d;
+      }) fits;
   due = subst (λ t. IsDueBy t p.step p (with_link p.intf p.cport idle_link h))
       (sym (step-connects p.step l.state at)) (record {
         cport = λ z. other (cport ∙ z);

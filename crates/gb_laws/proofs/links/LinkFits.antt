@@ -1,19 +1,18 @@
 -- A turn of the application processor fits its connections, and so do two that follow each other.
 use Rattle.std.proofs.Common.{List, None, Some, map, refl, subst, sym, ℕ, [], ◌++◌}
 use Rattle.std.proofs.Common.{◌∙◌, ◌∷◌, ◌≡◌}
-use Rattle.std.specs.List.{find}
 use Rattle.gb_base.specs.declared.entry.Entry.{Entry}
 use Rattle.gb_base.specs.declared.interface.{Interface.Interface, Link.Link}
 use Rattle.gb_base.specs.declared.steps.SequenceStep.{SequenceStep}
-use Rattle.gb_machine.specs.Host.{Host, is_link, with_interface, with_link}
+use Rattle.gb_machine.specs.Host.{Host, with_interface, with_link}
 use Rattle.gb_machine.specs.Turns.{Act, Turn, turn}
 use Rattle.gb_machine.specs.{Bus.Bus, Members.Each, Members.IsIn}
 use Rattle.gb_invariants.proofs.HostChanges.{AsksNone}
 use Rattle.gb_invariants.proofs.Lists.{in-behind, in-front}
-use Rattle.gb_laws.proofs.links.LinkHosts.{ComeFrom, Stay, come-changed, come-same, come-then}
+use Rattle.gb_laws.proofs.links.LinkHosts.{ComeFrom, KeepsAt, Stay, come-changed, come-same, come-then}
 use Rattle.gb_laws.proofs.links.LinkHosts.{host-interface, host-link, stay-changed, stay-same}
 use Rattle.gb_laws.proofs.links.LinkHosts.{then-same}
-use Rattle.gb_laws.proofs.links.Links.{ArePending, DrainsPlain, HasNoControl, HostFits, IsDeaf}
+use Rattle.gb_laws.proofs.links.Links.{ArePending, HasNoControl, HostFits}
 use Rattle.gb_laws.proofs.links.Links.{IsFollowed, IsWaiting, SameLink, leaves, stays}
 
 -- What a turn keeps.
@@ -48,15 +47,11 @@ fits-same {h} es same fits =
 
 -- one of them changes, and is what it was in what never changes
 pub fits-link : {b : Bus} {h : Host} (i c : ℕ) (f : Link → Link) (es : List Entry)
-    → ((l : Link) → SameLink l (f l))
-    → ((l : Link) → IsIn l h.links → find (is_link i c) h.links ≡ Some l → IsWaiting l
-    → IsWaiting (f l))
-    → ((l : Link) → IsIn l h.links → find (is_link i c) h.links ≡ Some l → IsDeaf l → IsDeaf (f l))
-    → ((l : Link) → IsIn l h.links → find (is_link i c) h.links ≡ Some l → DrainsPlain l
-    → DrainsPlain (f l)) → HostFits b h → TurnFits b h (turn (with_link i c f h) (map Act.Tell es))
-fits-link {h} i c f es same waiting deaf draining fits =
-    fits-stay es (stay-changed h.links i c f same) (come-changed h.links i c f same deaf)
-    (host-link i c f same waiting deaf draining fits)
+    → ((l : Link) → SameLink l (f l)) → KeepsAt i c f h.links → HostFits b h
+    → TurnFits b h (turn (with_link i c f h) (map Act.Tell es))
+fits-link {h} i c f es same keeps fits =
+    fits-stay es (stay-changed h.links i c f same) (come-changed h.links i c f same keeps)
+    (host-link i c f same keeps fits)
 
 -- an interface changes, and waits for what it waited for
 pub fits-interface : {b : Bus} {h : Host} (i : ℕ) (f : Interface → Interface) (es : List Entry)

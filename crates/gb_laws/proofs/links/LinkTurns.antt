@@ -15,7 +15,7 @@ use Rattle.gb_machine.specs.Host.{is_link, link_at, new_interface, staged, with_
 use Rattle.gb_machine.specs.HostRefusals.{drain_conditions, is_ending, is_failed, is_unopened}
 use Rattle.gb_machine.specs.HostRefusals.{link_conditions}
 use Rattle.gb_machine.specs.HostTurns.{links_left, links_of}
-use Rattle.gb_machine.specs.{Arriving.state_takes, Bus.Bus, Failures.link_told, Failures.told_of}
+use Rattle.gb_machine.specs.{Arriving.state_takes, Bus.Bus, Failures.told_of}
 use Rattle.gb_machine.specs.{Failures.unsent, Lists.without, Members.IsIn, Sequences.enumerated}
 use Rattle.gb_machine.specs.{SequenceSteps.purpose}
 use Rattle.gb_machine.specs.Turns.{Act, failed_turn, turn}
@@ -33,12 +33,32 @@ use Rattle.gb_laws.proofs.links.LinkDue.{completes-due, control-idle, ends-well,
 use Rattle.gb_laws.proofs.links.LinkDue.{makes-free, noticed-allowed, still-idle}
 use Rattle.gb_laws.proofs.links.LinkFits.{TurnFits, fits-interface, fits-link, fits-same, fits-then}
 use Rattle.gb_laws.proofs.links.LinkFits.{waits-not}
-use Rattle.gb_laws.proofs.links.LinkHosts.{come-without, host-images, links-without, none-without}
+use Rattle.gb_laws.proofs.links.LinkHosts.{come-without, host-images, host-without}
 use Rattle.gb_laws.proofs.links.LinkHosts.{same-link, state-link, stay-changed, without-in}
 use Rattle.gb_laws.proofs.links.LinkLists.{found-there, link-is, one-link, ordered-differ}
 use Rattle.gb_laws.proofs.links.LinkLists.{ordered-stays}
 use Rattle.gb_laws.proofs.links.Links.{AreOther, ArePending, HostFits, IsDeaf, IsDue, IsEnumerating}
 use Rattle.gb_laws.proofs.links.Links.{IsFollowed, LinksFit, leaves, stays}
+
+-- ---- connections are given up
+
+-- each other one stays
+followed-left : (test : Link → Bool) (ls : List Link) (acts : List Act)
+    → ((l : Link) → IsIn l ls → test l ≡ true → IsIn (Act.Leave l.connection) acts) → (l : Link)
+    → IsIn l ls → IsFollowed l (without test ls) acts
+followed-left test ls acts left l i = by (test l) refl
+  where
+    by : (t : Bool) → test l ≡ t → IsFollowed l (without test ls) acts
+    by false e = stays l (without-in test ls l i e) (same-link l)
+    by true e = leaves (left l i e)
+
+-- and has another number
+left-other : {b : Bus} {h : Host} (test : Link → Bool) → HostFits b h → (l k : Link)
+    → IsIn l h.links → test l ≡ true → IsIn k (without test h.links)
+    → k.connection ≢ l.connection
+left-other {h} test fits l k live its rest e =
+    let w = in-without test h.links k rest in
+    not-both (test k) (ap test (one-link h.links k l fits.links.rise w.0 live e) ∙ its) w.1
 
 -- ---- an interface comes or goes
 
@@ -80,41 +100,29 @@ fits-departing : {b : Bus} (i : ℕ) (h : Host) → HostFits b h
     → TurnFits b h (turn (host_after (HostChange.departs i) h) (links_left (links_of i h)))
 fits-departing {b} i h fits = record {
   host = record {
-    links = links-without b (λ l. l.intf == i) fits.links;
-    interfaces =
-        λ x j w e. let old = fits.interfaces x (in-without (is_intf i) h.interfaces x j).0 w e in
-        (old.0, λ early. none-without x.intf (λ l. l.intf == i) h.links (old.1 early));
+    links = rest.links;
+    interfaces = λ x j. rest.interfaces x (in-without (is_intf i) h.interfaces x j).0;
     differ = two-filter AreOther (λ x. not (is_intf i x)) h.interfaces fits.differ;
-    present = λ l j.
-        let w = in-without (λ (x : Link). x.intf == i) h.links l j in
-        let p = fits.present l w.0 in
-        record {
-          interface = p.interface;
-          known = filter-in (λ x. not (is_intf i x)) h.interfaces p.interface p.known
-              (ap not (ap (λ n. n == i) p.is ∙ w.1));
-          is = p.is;
-        };
+    present = λ l j. let p = rest.present l j in record {
+      interface = p.interface;
+      known = filter-in (λ x. not (is_intf i x)) h.interfaces p.interface p.known
+          (ap not (ap (λ n. n == i) p.is ∙ (in-without its h.links l j).1));
+      is = p.is;
+    };
   };
   pending = pending-left (host_after (HostChange.departs i) h) (links_of i h)
-      (λ l j. (fits.links.numbered l (in-filter (λ (x : Link). x.intf == i) h.links l
-      j).0).from_two) other;
-  followed = λ l j. by l j (l.intf == i) refl;
-  come = come-without (λ l. l.intf == i) h.links;
+      (λ l j. (fits.links.numbered l (in-filter its h.links l j).0).from_two)
+      (λ l k j r. let f = in-filter its h.links l j in left-other its fits l k f.0 f.1 r);
+  followed = followed-left its h.links (links_left (links_of i h))
+      (λ l j e. left-in (links_of i h) l (filter-in its h.links l j e));
+  come = come-without its h.links;
 }
   where
-    other : (l k : Link) → IsIn l (links_of i h) → IsIn k (without (λ l. l.intf == i) h.links)
-        → k.connection ≡ l.connection → ⊥
-    other l k a c e =
-        let f = in-filter (λ (x : Link). x.intf == i) h.links l a in
-        let w = in-without (λ (x : Link). x.intf == i) h.links k c in
-        not-both (l.intf == i) f.1 (ap (λ (x : Link). x.intf == i)
-        (sym (one-link h.links k l fits.links.rise w.0 f.0 e)) ∙ w.1)
+    its : Link → Bool
+    its l = l.intf == i
 
-    by : (l : Link) → IsIn l h.links → (t : Bool) → (l.intf == i) ≡ t
-        → IsFollowed l (without (λ l. l.intf == i) h.links) (links_left (links_of i h))
-    by l j false e = stays l (without-in (λ x. x.intf == i) h.links l j e) (same-link l)
-    by l j true e = leaves
-        (left-in (links_of i h) l (filter-in (λ x. x.intf == i) h.links l j e))
+    rest : HostFits b (record h { links = without its h.links })
+    rest = host-without its fits
 
 -- ---- a connection changes
 
@@ -128,9 +136,11 @@ fits-state : {b : Bus} {h : Host} (i c : ℕ) (to : ConnState) (o : Option Link)
     (acts_by (HostChange.turns_to i c to o) h))
 fits-state i c to o idle takes plain fits =
     fits-link i c (in_state to) (told_of to o) (state-link to)
-    (λ l j e w. waits-not (in_state to l) (idle l e))
-    (λ l j e d. record { cport = d.cport; takes = takes l e d })
-    (λ l j e d drains. plain l e drains) fits
+    (λ l e. record {
+      waiting = λ w. waits-not (in_state to l) (idle l e);
+      deaf = λ d. record { cport = d.cport; takes = takes l e d };
+      draining = λ d drains. plain l e drains;
+    }) fits
 
 -- an open connection isn't ending
 open-state : (s : ConnState) → is_unopened s ≡ false → is_ending s ≡ false → is_failed s ≡ false
@@ -175,10 +185,9 @@ fits-closing {b} i c l h idle found fits = record {
 
     r : TurnFits b (with_freed l.connection h)
         (turn (host_after (HostChange.closes i c l) h) [])
-    r = fits-link i c (in_state state.Closing) [] (state-link state.Closing)
-        (λ y j f w. waits-not (in_state state.Closing y)
-        (ap (λ (x : Link). x.awaits) (sym (same-some l y (sym found ∙ f))) ∙ idle.1))
-        (λ y j f d. record { cport = d.cport; takes = refl }) (λ y j f d k. absurd cc)
+    r = fits-state i c state.Closing None
+        (λ y f. ap (λ (x : Link). x.awaits) (sym (same-some l y (sym found ∙ f))) ∙ idle.1)
+        (λ y f d. refl) (λ y f drains. absurd cc)
         (host-images (with_freed l.connection h).images fits)
 
 -- one is given up
@@ -191,50 +200,31 @@ fits-leaving {b} p o h found fits = by o found
     its : Link → Bool
     its = is_link p.intf p.cport
 
-    host : HostFits b (host_after (HostChange.leaves p o) h)
-    host = record {
-      links = links-without b its fits.links;
-      interfaces = λ x i w e. let old = fits.interfaces x i w e in
-          (old.0, λ early. none-without x.intf its h.links (old.1 early));
-      differ = fits.differ;
-      present = λ l i. fits.present l (in-without its h.links l i).0;
-    }
-
     by : (o : Option Link) → link_at p.intf p.cport h ≡ o
         → TurnFits b h (turn (host_after (HostChange.leaves p o) h)
         (acts_by (HostChange.leaves p o) h))
     by None found = record {
-      host = host;
+      host = host-without its fits;
       pending = tt;
-      followed = λ l i.
-          stays l (without-in its h.links l i (find-none its h.links l found i)) (same-link l);
+      followed = followed-left its h.links []
+          (λ l i e. absurd (not-both (its l) e (find-none its h.links l found i)));
       come = come-without its h.links;
     }
-    by (Some k) found = record {
-      host = host;
-      pending = (((fits.links.numbered k there.0).from_two, other), (tt, tt));
-      followed = λ l i. follows l i (its l) refl;
+    by (Some k) found = let there = found-in its h.links k found in record {
+      host = host-without its fits;
+      pending = (
+        (
+          (fits.links.numbered k there.0).from_two,
+          λ l i. left-other its fits k l there.0 there.1 i,
+        ),
+        (tt, tt),
+      );
+      followed = followed-left its h.links _ (λ l i e.
+          let at = link-is p.intf p.cport l e in
+          inl (ap (λ (x : Link). Act.Leave x.connection) (same-some l k
+          (sym (found-there h.links l fits.links.rise i at.0 at.1) ∙ found))));
       come = come-without its h.links;
     }
-      where
-        there : IsIn k h.links × (its k ≡ true)
-        there = found-in its h.links k found
-
-        other : (l : Link) → IsIn l (without its h.links) → l.connection ≢ k.connection
-        other l i e =
-            let w = in-without its h.links l i in
-            not-both (its l) (ap its (one-link h.links l k fits.links.rise w.0 there.0 e)
-            ∙ there.1) w.1
-
-        follows : (l : Link) → IsIn l h.links → (t : Bool) → its l ≡ t
-            → IsFollowed l (without its h.links)
-            (Act.Leave k.connection ∷ Act.Tell (link_told state.Closed k) ∷ [])
-        follows l i false e = stays l (without-in its h.links l i e) (same-link l)
-        follows l i true e =
-            let at = link-is p.intf p.cport l e in
-            let again = found-there h.links l fits.links.rise i at.0 at.1 in
-            leaves (inl (ap (λ (x : Link). Act.Leave x.connection)
-            (same-some l k (sym again ∙ found))))
 
 -- ---- the law of turns
 
