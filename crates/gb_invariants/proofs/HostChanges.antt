@@ -1,7 +1,7 @@
 -- What the application processor does at what it takes notice of, or where a request can't be made,
 -- as single changes of it and one end.
-use Rattle.std.proofs.Common.{Bool, List, None, Option, Some, false, map, true, ℕ, [], ◌++◌, ◌∷◌}
-use Rattle.std.proofs.Common.{◌≡◌}
+use Rattle.std.proofs.Common.{Bool, List, None, Option, Some, cond, false, map, refl, true, ℕ, []}
+use Rattle.std.proofs.Common.{◌++◌, ◌∷◌, ◌≡◌, ◌⊎◌}
 use Rattle.gb_base.specs.declared.entry.{ConnState.ConnState, Entry.Entry}
 use Rattle.gb_base.specs.declared.host_event.HostEvent.TheVariants as host_event
 use Rattle.gb_base.specs.declared.host_event.HostEvent.{HostEvent}
@@ -13,16 +13,16 @@ use Rattle.gb_base.specs.declared.entry.Entry.TheVariants as entry
 use Rattle.gb_base.specs.declared.entry.IntfStage.TheVariants as stage
 use Rattle.gb_base.specs.declared.outcome.Outcome.TheVariants as outcome
 use Rattle.gb_base.specs.declared.steps.SequenceStep.TheVariants as steps
-use Rattle.gb_machine.specs.Host.{Host, in_state, is_draining, link_at, link_of, staged}
+use Rattle.gb_machine.specs.Host.{Host, free_cport, in_state, is_draining, link_at, link_of, staged}
 use Rattle.gb_machine.specs.Host.{with_freed, with_interface, with_link, with_new_interface}
 use Rattle.gb_machine.specs.Host.{without_link}
 use Rattle.gb_machine.specs.HostTurns.{host_inserted, host_removed, host_turn, links_left, links_of}
 use Rattle.gb_machine.specs.HostTurns.{without_interface}
 use Rattle.gb_machine.specs.SequenceSteps.{at_step, is_enumeration, purpose}
-use Rattle.gb_machine.specs.Sequences.{ap_in, asking, enumerated, opens, target}
+use Rattle.gb_machine.specs.Sequences.{ap_in, asking, enumerated, opened, opens, target, way_of}
 use Rattle.gb_machine.specs.Turns.{Act, Turn, turn}
 use Rattle.gb_machine.specs.{Failures.link_told, Failures.told_of, Members.Each, Waits.awaited}
-use Rattle.gb_machine.specs.{Waits.awaits_nothing}
+use Rattle.gb_machine.specs.{Waits.awaits_nothing, Waits.waiting}
 
 -- ---- what is noticed
 
@@ -125,18 +125,11 @@ pub record Keeps (f : Interface → Interface) : Type 0 where
   pub awaits : (x : Interface) → (f x).awaits ≡ x.awaits
   pub stage : (x : Interface) → (f x).stage ≡ x.stage
 
--- a connection may have this state, but for closing, which has a change of its own
-abbrev pub MayTurnTo : ConnState → Type 0
-MayTurnTo state.Open = Unit {0}
-MayTurnTo state.Draining = Unit {0}
-MayTurnTo state.Failed = Unit {0}
-MayTurnTo _ = ⊥
-
 -- What a change finds where it is made.
 abbrev pub Finds : Host → HostChange → Type 0
 Finds h (tells e) = IsOfNone e
 Finds h (updates i f) = Keeps f
-Finds h (turns_to i c to o) = (link_at i c h ≡ o) × MayTurnTo to
+Finds h (turns_to i c to o) = link_at i c h ≡ o
 Finds h (closes i c l) = link_at i c h ≡ Some l
 Finds h (leaves p o) = link_at p.intf p.cport h ≡ o
 Finds h _ = Unit {0}
@@ -189,72 +182,104 @@ pub record IsDrained (x : Notice) (before : Host) (l : Link) : Type 0 where
   pub found : link_of number before ≡ Some l
   pub drains : is_draining l.state ≡ true
 
--- Why a request is made: a sequence begins, or goes on with the next step.
-pub data IsAskedAt (x : Notice) (before : Host) (p : Purpose) : Type 0 where
+-- Why a connection is closing: it is disconnected, or it was draining and is idle.
+pub data IsClosingFor (x : Notice) (before : Host) (i c : ℕ) : Type 0 where
+  by_disconnect : x ≡ at_event (host_event.Disconnect i c) → IsClosingFor x before i c
+  by_idle : (d : Link) → IsDrained x before d → d.intf ≡ i → d.cport ≡ c
+      → IsClosingFor x before i c
+
+-- The application processor where the step behind one that was answered is asked: as it was, but
+-- for its interface, or with Control open.
+pub data IsBehind (last : Purpose) (h g : Host) : Type 0 where
+  as_answered : g ≡ h → IsBehind last h g
+  with_update : (f : Interface → Interface) → Keeps f → g ≡ with_interface last.intf f h
+      → IsBehind last h g
+  with_control : last.step ≡ steps.CreateControl → g ≡ opened last h → IsBehind last h g
+
+-- Why a request is made, and where: a sequence begins, or goes on with the next step.
+pub data IsAskedAt (x : Notice) (before : Host) (p : Purpose) (h : Host) : Type 0 where
   to_enumerate : (q i : ℕ) → x ≡ at_insertion q i → p ≡ purpose i 0 steps.EnableVsys
-      → IsAskedAt x before p
+      → h ≡ with_new_interface q i before → IsAskedAt x before p h
   to_connect : (i c : ℕ) → x ≡ at_event (host_event.Connect i c)
-      → p ≡ purpose i c steps.CreateConnection → IsAskedAt x before p
-  to_disconnect : (i c : ℕ) (l : Link) → x ≡ at_event (host_event.Disconnect i c)
-      → link_at i c before ≡ Some l → p ≡ purpose i c steps.TellDisconnecting
-      → IsAskedAt x before p
-  to_close : (d l : Link) → IsDrained x before d → link_at d.intf d.cport before ≡ Some l
-      → p ≡ purpose d.intf d.cport steps.TellDisconnecting → IsAskedAt x before p
+      → p ≡ purpose i c steps.CreateConnection → h ≡ before → IsAskedAt x before p h
+  to_close : (i c : ℕ) (l : Link) → IsClosingFor x before i c → link_at i c before ≡ Some l
+      → p ≡ purpose i c steps.TellDisconnecting → h ≡ host_after (closes i c l) before
+      → IsAskedAt x before p h
   to_go_on : (last : Purpose) (step : SequenceStep) → IsAnswered x before last
-      → step_behind last.step ≡ Some step → p ≡ at_step step last → IsAskedAt x before p
+      → step_behind last.step ≡ Some step → p ≡ at_step step last
+      → IsBehind last (awaits_nothing last before) h → IsAskedAt x before p h
 
 -- What changes are made for: the application processor takes notice of something, or the request of
 -- a purpose can't be made.
 pub data Occasion : Type 0 where
   at_notice : (x : Notice) (before : Host) → Occasion
-  at_unsent : (p : Purpose) → Occasion
+  at_unsent : (p : Purpose) (before : Host) → Occasion
 
 -- something is noticed, and nothing has changed yet
 abbrev pub Notices : Occasion → Notice → Host → Type 0
 Notices (at_notice x before) y h = (x ≡ y) × (h ≡ before)
-Notices (at_unsent p) y h = ⊥
+Notices (at_unsent p before) y h = ⊥
 
--- a connection that drains is idle, and nothing has changed yet
-abbrev pub Drained : Occasion → Link → Host → Type 0
-Drained (at_notice x before) d h = IsDrained x before d × (h ≡ before)
-Drained (at_unsent p) d h = ⊥
+-- a connection is closing, and nothing has changed yet
+abbrev pub Closes : Occasion → ℕ → ℕ → Host → Type 0
+Closes (at_notice x before) i c h = IsClosingFor x before i c × (h ≡ before)
+Closes (at_unsent p before) i c h = ⊥
 
--- Why a connection is closing: it is disconnected, or it was draining and is idle.
-pub data IsClosingFor (o : Occasion) (h : Host) (i c : ℕ) : Type 0 where
-  by_disconnect : Notices o (at_event (host_event.Disconnect i c)) h → IsClosingFor o h i c
-  by_idle : (d : Link) → Drained o d h → d.intf ≡ i → d.cport ≡ c → IsClosingFor o h i c
+-- a request ended, and nothing has changed yet
+abbrev pub Ends : Occasion → Purpose → Host → Type 0
+Ends (at_notice x before) p h = IsEnded x before p × (h ≡ before)
+Ends (at_unsent q before) p h = ⊥
 
--- the last step of a sequence was answered, and the sequence waits for nothing
+-- a step was answered, and its sequence waits for nothing
 abbrev pub Completes : Occasion → Purpose → SequenceStep → Host → Type 0
 Completes (at_notice x before) p last h =
     IsAnswered x before p × (p.step ≡ last) × (h ≡ awaits_nothing p before)
-Completes (at_unsent p) q last h = ⊥
+Completes (at_unsent q before) p last h = ⊥
 
 -- the enumeration of an interface fails
 abbrev pub FailsAt : Occasion → ℕ → Type 0
 FailsAt (at_notice x before) i =
     (p : Purpose) × IsEnded x before p × (is_enumeration p.step ≡ true) × (p.intf ≡ i)
-FailsAt (at_unsent p) i = (is_enumeration p.step ≡ true) × (p.intf ≡ i)
+FailsAt (at_unsent p before) i = (is_enumeration p.step ≡ true) × (p.intf ≡ i)
 
 -- a request is made
-abbrev pub AsksAt : Occasion → Purpose → Type 0
-AsksAt (at_notice x before) p = IsAskedAt x before p
-AsksAt (at_unsent q) p = ⊥
+abbrev pub AsksAt : Occasion → Purpose → Host → Type 0
+AsksAt (at_notice x before) p h = IsAskedAt x before p h
+AsksAt (at_unsent q before) p h = ⊥
+
+-- a step fails: its request ended, there is no connection for that, or no identifier
+abbrev pub FailsFor : Occasion → Purpose → Host → Type 0
+FailsFor (at_notice x before) p h =
+    (IsEnded x before p × (h ≡ awaits_nothing p before)) ⊎ IsAskedAt x before p h
+FailsFor (at_unsent q before) p h = (q ≡ p) × (h ≡ before) × (is_creating q.step ≡ false)
+
+-- why a connection has another state, but for closing, which has a change of its own
+abbrev pub TurnsFor : ConnState → Occasion → Host → ℕ → ℕ → Type 0
+TurnsFor state.Open o h i c =
+    (step : SequenceStep) × (Completes o (purpose i c step) steps.CreateControl h
+    ⊎ Completes o (purpose i c step) steps.TellConnected h)
+TurnsFor state.Draining o h i c = Notices o (at_event (host_event.Drain i c)) h
+TurnsFor state.Failed o h i c = (step : SequenceStep) × FailsFor o (purpose i c step) h
+TurnsFor _ o h i c = ⊥
 
 -- Why a change is made, where the application processor is so far.
 abbrev pub IsFor : Occasion → Host → HostChange → Type 0
 IsFor o h (arrives p i) = Notices o (at_insertion p i) h
 IsFor o h (departs i) = Notices o (at_removal i) h
+IsFor o h (resumes p) = Ends o p h
 IsFor o h (fails i) = FailsAt o i
-IsFor o h (closes i c l) = IsClosingFor o h i c
+IsFor o h (turns_to i c to l) = TurnsFor to o h i c
+IsFor o h (closes i c l) = Closes o i c h
 IsFor o h (leaves p l) = Completes o p steps.DestroyConnection h
 IsFor o h _ = Unit {0}
 
 -- Why a turn ends so.
 abbrev pub IsLast : Occasion → Host → HostEnd → Type 0
 IsLast o h rests = Unit {0}
-IsLast o h (asks k p) = AsksAt o p × (is_creating p.step ≡ false)
-IsLast o h (makes a protocol p) = AsksAt o p
+IsLast o h (asks k p) =
+    AsksAt o p h × (is_creating p.step ≡ false) × (way_of p h ≡ Some k)
+IsLast o h (makes a protocol p) =
+    AsksAt o p h × (is_creating p.step ≡ true) × (free_cport h ≡ Some a)
 IsLast o h (enumerates p bytes) = Completes o p steps.AskManifest h
 
 -- ---- laws of turns
@@ -289,3 +314,24 @@ changes-ask (closes i c l) h = (tt, (tt, tt))
 changes-ask (leaves p None) h = tt
 changes-ask (leaves p (Some l)) h = (tt, (tt, tt))
 changes-ask _ h = tt
+
+-- an interface or a connection waits for something, or for nothing
+abbrev pub interface_awaits : Option (ℕ × SequenceStep) → Interface → Interface
+interface_awaits w x = record x { awaits = w }
+
+abbrev pub link_awaits : Option (ℕ × SequenceStep) → Link → Link
+link_awaits w l = record l { awaits = w }
+
+-- A sequence waits at its interface in an enumeration, and else at its connection.
+pub waiting-by : (P : Host → Type 0) (w : Option (ℕ × SequenceStep)) (p : Purpose) (h : Host)
+    → (is_enumeration p.step ≡ true → P (with_interface p.intf (interface_awaits w) h))
+    → (is_enumeration p.step ≡ false → P (with_link p.intf p.cport (link_awaits w) h))
+    → P (waiting w p h)
+waiting-by P w p h = by (is_enumeration p.step)
+  where
+    by : (t : Bool) → (t ≡ true → P (with_interface p.intf (interface_awaits w) h))
+        → (t ≡ false → P (with_link p.intf p.cport (link_awaits w) h))
+        → P (cond t (with_interface p.intf (interface_awaits w) h)
+        (with_link p.intf p.cport (link_awaits w) h))
+    by true at on = at refl
+    by false at on = on refl

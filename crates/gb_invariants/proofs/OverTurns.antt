@@ -1,6 +1,6 @@
 -- A law of turns goes over what the application processor does at what it takes notice of.
-use Rattle.std.proofs.Common.{Bool, List, None, Option, Some, ap, cond, false, length, refl}
-use Rattle.std.proofs.Common.{true, ℕ, [], ◌∙◌, ◌∷◌, ◌≡◌}
+use Rattle.std.proofs.Common.{Bool, List, None, Option, Some, ap, cond, false, inl, inr, length}
+use Rattle.std.proofs.Common.{refl, true, ℕ, [], ◌∙◌, ◌∷◌, ◌≡◌}
 use Rattle.std.specs.Prelude.{Err, Ok, Result, option_and_then, ◌==◌}
 use Rattle.gb_base.specs.declared.host_event.HostEvent.TheVariants as host_event
 use Rattle.gb_base.specs.declared.host_event.HostEvent.{HostEvent}
@@ -15,29 +15,31 @@ use Rattle.gb_base.specs.declared.steps.SequenceStep.TheVariants as steps
 use Rattle.gb_formats.specs.Manifest.{CportView, Manifest, check_answer}
 use Rattle.gb_formats.specs.{ControlRecords.read_control_reply, ManifestRules.Refused}
 use Rattle.gb_machine.specs.Failures.{interface_fails, step_fails}
-use Rattle.gb_machine.specs.Host.{Host, cport_of, free_cport, free_device, in_state, interface_of}
-use Rattle.gb_machine.specs.Host.{is_draining, link_at, link_of, with_freed, with_interface}
-use Rattle.gb_machine.specs.Host.{with_link, with_new_interface, without_link}
+use Rattle.gb_machine.specs.Host.{Host, cport_of, free_cport, free_device, interface_of}
+use Rattle.gb_machine.specs.Host.{is_draining, link_at, link_of, with_interface}
+use Rattle.gb_machine.specs.Host.{with_new_interface, without_link}
 use Rattle.gb_machine.specs.HostTurns.{connects, connects_on, disconnects, drained, ended_for}
-use Rattle.gb_machine.specs.HostTurns.{host_disconnects, host_drains, host_idle, host_inserted}
+use Rattle.gb_machine.specs.HostTurns.{host_disconnects, host_idle, host_inserted}
 use Rattle.gb_machine.specs.HostTurns.{host_removed, without_interface}
 use Rattle.gb_machine.specs.SequenceSteps.{at_step, is_enumeration, is_reply, purpose}
 use Rattle.gb_machine.specs.Sequences.{begins_control, begins_device, link_left}
-use Rattle.gb_machine.specs.Sequences.{link_turn, manifest_checked, opened, opened_told, payload_in}
+use Rattle.gb_machine.specs.Sequences.{manifest_checked, opened, opened_told, payload_in}
 use Rattle.gb_machine.specs.Sequences.{size_in, size_known, step_answered, step_asked, step_done}
 use Rattle.gb_machine.specs.Turns.{Act, failed_turn, turn}
 use Rattle.gb_machine.specs.Waits.{awaited, awaits_nothing}
-use Rattle.gb_invariants.proofs.HostChanges.{FailsAt, IsAnswered, IsAskedAt, IsClosingFor}
-use Rattle.gb_invariants.proofs.HostChanges.{IsDrained, Notice}
-use Rattle.gb_invariants.proofs.HostChanges.{TurnLaw, arrives, asks, at_event}
+use Rattle.gb_invariants.proofs.HostChanges.{FailsAt, IsAnswered, IsAskedAt, IsBehind}
+use Rattle.gb_invariants.proofs.HostChanges.{IsClosingFor, IsEnded, Keeps, Notice}
+use Rattle.gb_invariants.proofs.HostChanges.{TurnLaw, arrives, as_answered, asks, at_event}
 use Rattle.gb_invariants.proofs.HostChanges.{at_insertion, at_notice, at_removal}
 use Rattle.gb_invariants.proofs.HostChanges.{by_disconnect, by_idle, closes, departs, end_of}
-use Rattle.gb_invariants.proofs.HostChanges.{enumerates, event_turn, is_creating, leaves}
+use Rattle.gb_invariants.proofs.HostChanges.{enumerates, event_turn, host_after, is_creating}
+use Rattle.gb_invariants.proofs.HostChanges.{leaves}
 use Rattle.gb_invariants.proofs.HostChanges.{makes, resumes, step_behind, to_close}
-use Rattle.gb_invariants.proofs.HostChanges.{to_connect, to_disconnect, to_enumerate, to_go_on}
-use Rattle.gb_invariants.proofs.HostChanges.{turn_of}
+use Rattle.gb_invariants.proofs.HostChanges.{to_connect, to_enumerate, to_go_on}
+use Rattle.gb_invariants.proofs.HostChanges.{turn_of, with_control, with_update}
 use Rattle.gb_invariants.proofs.OverFailures.{asked, interface-fails, keeps-all, no-enumeration}
-use Rattle.gb_invariants.proofs.OverFailures.{resting, step-fails, told, turned, updated}
+use Rattle.gb_invariants.proofs.OverFailures.{resting, step-fails, told, turned, turned-last}
+use Rattle.gb_invariants.proofs.OverFailures.{updated}
 
 -- ---- a request ended
 
@@ -67,17 +69,28 @@ module _ (x : Notice) (before : Host) (law : TurnLaw (at_notice x before)) where
       refl,
     )
 
-    next : (step later : SequenceStep) → p.step ≡ step → step_behind step ≡ Some later
-        → IsAskedAt x before (at_step later p)
-    next step later at is = to_go_on p later answered (ap step_behind at ∙ is) refl
+    next : (step later : SequenceStep) (h : Host) → p.step ≡ step → step_behind step ≡ Some later
+        → IsBehind p here h → IsAskedAt x before (at_step later p) h
+    next step later h at is behind =
+        to_go_on p later answered (ap step_behind at ∙ is) refl behind
 
     -- the next step is asked
     goes : (step later : SequenceStep) (h : Host) → p.step ≡ step → step_behind step ≡ Some later
         → is_creating later ≡ false → (is_enumeration later ≡ true → is_enumeration step ≡ true)
-        → law.says h (step_asked (at_step later p) h)
-    goes step later h at is plain same =
-        asked (at_notice x before) law (at_step later p) h (next step later at is) plain
+        → IsBehind p here h → law.says h (step_asked (at_step later p) h)
+    goes step later h at is plain same behind =
+        asked (at_notice x before) law (at_step later p) h (next step later h at is behind) plain
         (λ s. fail step at (same s))
+
+    -- and its interface has changed
+    goes-updated : (step later : SequenceStep) (f : Interface → Interface) → p.step ≡ step
+        → step_behind step ≡ Some later → is_creating later ≡ false
+        → is_enumeration step ≡ true → Keeps f
+        → law.says here (step_asked (at_step later p) (with_interface p.intf f here))
+    goes-updated step later f at is plain same keeps =
+        updated (at_notice x before) law p.intf f here _ keeps
+        (goes step later (with_interface p.intf f here) at is plain (λ s. same)
+        (with_update f keeps refl))
 
     -- or its interface fails
     interface-failed : (step later : SequenceStep) (h : Host) → p.step ≡ step
@@ -97,11 +110,11 @@ module _ (x : Notice) (before : Host) (law : TurnLaw (at_notice x before)) where
     done : (step : SequenceStep) (payload : List ℕ) → p.step ≡ step
         → law.says here (step_done step p payload here)
     done steps.EnableVsys payload at =
-        goes steps.EnableVsys steps.EnableRefclk here at refl refl (λ s. refl)
+        goes steps.EnableVsys steps.EnableRefclk here at refl refl (λ s. refl) (as_answered refl)
     done steps.EnableRefclk payload at =
-        goes steps.EnableRefclk steps.EnableUnipro here at refl refl (λ s. refl)
+        goes steps.EnableRefclk steps.EnableUnipro here at refl refl (λ s. refl) (as_answered refl)
     done steps.EnableUnipro payload at =
-        goes steps.EnableUnipro steps.Activate here at refl refl (λ s. refl)
+        goes steps.EnableUnipro steps.Activate here at refl refl (λ s. refl) (as_answered refl)
     done steps.Activate payload at = by (free_device here)
       where
         by : (o : Option ℕ)
@@ -109,44 +122,42 @@ module _ (x : Notice) (before : Host) (law : TurnLaw (at_notice x before)) where
         by None = interface-failed steps.Activate steps.GiveDevice here at refl
         by (Some d) =
             let f = λ (x : Interface). record x { device = Some d } in
-            updated (at_notice x before) law p.intf f here _
+            goes-updated steps.Activate steps.GiveDevice f at refl refl refl
             (keeps-all f (λ x. refl) (λ x. refl) (λ x. refl) (λ x. refl))
-            (goes steps.Activate steps.GiveDevice (with_interface p.intf f here) at refl refl
-            (λ s. refl))
     done steps.GiveDevice payload at =
         let f = λ (x : Interface). record x { has_device = true } in
-        updated (at_notice x before) law p.intf f here _
+        goes-updated steps.GiveDevice steps.CreateRoute f at refl refl refl
         (keeps-all f (λ x. refl) (λ x. refl) (λ x. refl) (λ x. refl))
-        (goes steps.GiveDevice steps.CreateRoute (with_interface p.intf f here) at refl refl
-        (λ s. refl))
-    done steps.CreateRoute payload at = by (free_cport here)
+    done steps.CreateRoute payload at = by (free_cport here) refl
       where
-        by : (o : Option ℕ)
+        by : (o : Option ℕ) → free_cport here ≡ o
             → law.says here (begins_control o (at_step steps.CreateControl p) here)
-        by None = interface-failed steps.CreateRoute steps.CreateControl here at refl
-        by (Some a) = law.ends (makes a 0 (at_step steps.CreateControl p)) here
-            (next steps.CreateRoute steps.CreateControl at refl)
+        by None free = interface-failed steps.CreateRoute steps.CreateControl here at refl
+        by (Some a) free = law.ends (makes a 0 (at_step steps.CreateControl p)) here (
+          next steps.CreateRoute steps.CreateControl here at refl (as_answered refl),
+          refl,
+          free,
+        )
     done steps.CreateControl payload at = by (link_at p.intf p.cport here) refl
       where
         asks-version : law.says (opened p here)
             (step_asked (at_step steps.AskVersion p) (opened p here))
         asks-version =
             goes steps.CreateControl steps.AskVersion (opened p here) at refl refl (λ s. refl)
+            (with_control at refl)
 
         by : (o : Option Link) → link_at p.intf p.cport here ≡ o → law.says here
             (opened_told o (step_asked (at_step steps.AskVersion p) (opened p here)))
         by None f = turned (at_notice x before) law p.intf p.cport state.Open None here _ f
-            tt asks-version
+            (p.step, inl (answered, at, refl)) asks-version
         by (Some l) f = turned (at_notice x before) law p.intf p.cport state.Open (Some l) here _ f
-            tt asks-version
+            (p.step, inl (answered, at, refl)) asks-version
     done steps.AskVersion payload at =
-        goes steps.AskVersion steps.AskSize here at refl refl (λ s. refl)
+        goes steps.AskVersion steps.AskSize here at refl refl (λ s. refl) (as_answered refl)
     done steps.AskSize payload at =
         let f = λ (x : Interface). record x { size = size_in (read_control_reply 0x03 payload) } in
-        updated (at_notice x before) law p.intf f here _
+        goes-updated steps.AskSize steps.AskManifest f at refl refl refl
         (keeps-all f (λ x. refl) (λ x. refl) (λ x. refl) (λ x. refl))
-        (goes steps.AskSize steps.AskManifest (with_interface p.intf f here) at refl refl
-        (λ s. refl))
     done steps.AskManifest payload at =
         by (length payload == size_known (interface_of p.intf here))
       where
@@ -157,20 +168,16 @@ module _ (x : Notice) (before : Host) (law : TurnLaw (at_notice x before)) where
         by false = interface-fails (at_notice x before) law p here (fail steps.AskManifest at refl)
     done steps.CreateConnection payload at =
         goes steps.CreateConnection steps.TellConnected here at refl refl no-enumeration
-    done steps.TellConnected payload at = by (link_at p.intf p.cport here) refl
-      where
-        by : (o : Option Link) → link_at p.intf p.cport here ≡ o
-            → law.says here (link_turn state.Open o (opened p here))
-        by None f = turned (at_notice x before) law p.intf p.cport state.Open None here
-            (turn (opened p here) []) f tt
-            (resting (at_notice x before) law (opened p here))
-        by (Some l) f = turned (at_notice x before) law p.intf p.cport state.Open (Some l) here
-            (turn (opened p here) []) f tt
-            (resting (at_notice x before) law (opened p here))
+        (as_answered refl)
+    done steps.TellConnected payload at =
+        turned-last (at_notice x before) law p.intf p.cport state.Open here
+        (p.step, inr (answered, at, refl))
     done steps.TellDisconnecting payload at =
         goes steps.TellDisconnecting steps.TellDisconnected here at refl refl no-enumeration
+        (as_answered refl)
     done steps.TellDisconnected payload at =
         goes steps.TellDisconnected steps.DestroyConnection here at refl refl no-enumeration
+        (as_answered refl)
     done steps.DestroyConnection payload at = by (link_at p.intf p.cport here) refl
       where
         gone : Host
@@ -187,15 +194,20 @@ module _ (x : Notice) (before : Host) (law : TurnLaw (at_notice x before)) where
       → awaited n before ≡ o → law.says before (ended_for o how before)
   ended n how is None found = resting (at_notice x before) law before
   ended n how is (Some p) found =
-      law.over (resumes p) before (step_answered (payload_in how) p (awaits_nothing p before)) tt tt
-      (by (payload_in how) refl)
+      law.over (resumes p) before (step_answered (payload_in how) p (awaits_nothing p before)) tt
+      (why, refl) (by (payload_in how) refl)
     where
-      fail : is_enumeration p.step ≡ true → FailsAt (at_notice x before) p.intf
-      fail s = (p, record { number = n; how = how; is = is; awaited = found }, s, refl)
+      why : IsEnded x before p
+      why = record { number = n; how = how; is = is; awaited = found }
+
+      failed : law.says (awaits_nothing p before)
+          (failed_turn (step_fails p.step p (awaits_nothing p before)))
+      failed = step-fails (at_notice x before) law p.step p (awaits_nothing p before)
+          (inl (why, refl)) (λ s. (p, why, s, refl))
 
       by : (o : Option (List ℕ)) → payload_in how ≡ o
           → law.says (awaits_nothing p before) (step_answered o p (awaits_nothing p before))
-      by None f = step-fails (at_notice x before) law p.step p (awaits_nothing p before) fail
+      by None f = failed
       by (Some payload) f = on (is_reply p.step payload)
         where
           on : (t : Bool) → law.says (awaits_nothing p before) (cond t
@@ -209,50 +221,33 @@ module _ (x : Notice) (before : Host) (law : TurnLaw (at_notice x before)) where
                 is = is ∙ ap (λ o. at_event (host_event.Ended n o)) a.2;
                 awaited = found;
               }) p.step payload refl
-          on false = step-fails (at_notice x before) law p.step p (awaits_nothing p before) fail
+          on false = failed
 
   -- ---- what else is noticed
 
   connected : (i c : ℕ) → x ≡ at_event (host_event.Connect i c) → (o : Option CportView)
       → law.says before (connects o (purpose i c steps.CreateConnection) before)
   connected i c is None = resting (at_notice x before) law before
-  connected i c is (Some view) = by (free_cport before)
+  connected i c is (Some view) = by (free_cport before) refl
     where
-      by : (o : Option ℕ) → law.says before
+      by : (o : Option ℕ) → free_cport before ≡ o → law.says before
           (connects_on o view.protocol (purpose i c steps.CreateConnection) before)
-      by None = resting (at_notice x before) law before
-      by (Some a) = law.ends (makes a view.protocol (purpose i c steps.CreateConnection)) before
-          (to_connect i c is refl)
+      by None free = resting (at_notice x before) law before
+      by (Some a) free = law.ends (makes a view.protocol (purpose i c steps.CreateConnection))
+          before (to_connect i c is refl refl, refl, free)
 
   -- a connection closes, for a reason that it has
-  closed : (i c : ℕ) → IsClosingFor (at_notice x before) before i c
-      → ((l : Link) → link_at i c before ≡ Some l
-      → IsAskedAt x before (purpose i c steps.TellDisconnecting))
-      → law.says before (host_disconnects i c before)
-  closed i c why ask = by (link_at i c before) refl
+  closed : (i c : ℕ) → IsClosingFor x before i c → law.says before (host_disconnects i c before)
+  closed i c why = by (link_at i c before) refl
     where
       by : (o : Option Link) → link_at i c before ≡ o
           → law.says before (disconnects o (purpose i c steps.TellDisconnecting) before)
       by None found = resting (at_notice x before) law before
       by (Some l) found =
-          law.over (closes i c l) before _ found why
+          law.over (closes i c l) before _ found (why, refl)
           (asked (at_notice x before) law (purpose i c steps.TellDisconnecting)
-          (with_link i c (in_state state.Closing) (with_freed l.connection before)) (ask l found)
-          refl no-enumeration)
-
-  draining : (i c : ℕ) → law.says before (host_drains i c before)
-  draining i c = by (link_at i c before) refl
-    where
-      after : Host
-      after = with_link i c (in_state state.Draining) before
-
-      by : (o : Option Link) → link_at i c before ≡ o
-          → law.says before (link_turn state.Draining o after)
-      by None found = turned (at_notice x before) law i c state.Draining None before (turn after [])
-          found tt (resting (at_notice x before) law after)
-      by (Some l) found =
-          turned (at_notice x before) law i c state.Draining (Some l) before (turn after []) found
-          tt (resting (at_notice x before) law after)
+          (host_after (closes i c l) before) (to_close i c l why found refl refl) refl
+          no-enumeration)
 
   idle : (k : ℕ) → x ≡ at_event (host_event.Idle k) → law.says before (host_idle k before)
   idle k is = by (link_of k before) refl
@@ -261,10 +256,8 @@ module _ (x : Notice) (before : Host) (law : TurnLaw (at_notice x before)) where
           → law.says before (cond t (host_disconnects d.intf d.cport before) (turn before []))
       on d found false drains = resting (at_notice x before) law before
       on d found true drains =
-          let why : IsDrained x before d =
-          record { number = k; is = is; found = found; drains = drains } in
-          closed d.intf d.cport (by_idle d (why, refl) refl refl)
-          (λ l at. to_close d l why at refl)
+          closed d.intf d.cport (by_idle d
+          (record { number = k; is = is; found = found; drains = drains }) refl refl)
 
       by : (o : Option Link) → link_of k before ≡ o → law.says before (drained o before)
       by None found = resting (at_notice x before) law before
@@ -276,7 +269,7 @@ module _ (x : Notice) (before : Host) (law : TurnLaw (at_notice x before)) where
       let g = with_new_interface p i before in
       told (at_notice x before) law (entry.Interface i stage.Enumerating) before
       (end_of (asks 1 q) g) tt (law.over (arrives p i) before (end_of (asks 1 q) g) tt (is, refl)
-      (law.ends (asks 1 q) g (to_enumerate p i is refl, refl)))
+      (law.ends (asks 1 q) g (to_enumerate p i is refl refl, refl, refl)))
 
   removed : (i : ℕ) → x ≡ at_removal i → law.says before (host_removed i before)
   removed i is =
@@ -290,9 +283,9 @@ module _ (x : Notice) (before : Host) (law : TurnLaw (at_notice x before)) where
   at-event (host_event.Removed p) is = resting (at_notice x before) law before
   at-event (host_event.Connect i c) is =
       connected i c is (option_and_then (cport_of c) (interface_of i before))
-  at-event (host_event.Disconnect i c) is =
-      closed i c (by_disconnect (is, refl)) (λ l found. to_disconnect i c l is found refl)
-  at-event (host_event.Drain i c) is = draining i c
+  at-event (host_event.Disconnect i c) is = closed i c (by_disconnect is)
+  at-event (host_event.Drain i c) is =
+      turned-last (at_notice x before) law i c state.Draining before (is, refl)
   at-event (host_event.Idle k) is = idle k is
   at-event (host_event.Ended n how) is = ended n how is (awaited n before) refl
 

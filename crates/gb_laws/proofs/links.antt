@@ -6,11 +6,11 @@ pub mod Draining
 pub mod DrainingKept
 pub mod LinkFrom
 pub mod LinkHosts
-pub mod LinkFails
-pub mod LinkSteps
+pub mod LinkFits
+pub mod Waited
 pub mod LinkEnds
-pub mod LinkClosing
-pub mod LinkLeft
+pub mod LinkDue
+pub mod LinkAsks
 pub mod LinkTurns
 pub mod LinkActs
 pub mod LinkBuses
@@ -25,7 +25,6 @@ pub mod LinkCloses
 pub mod LinkLeaves
 pub mod LinkSides
 pub mod Removing
-pub mod Turned
 pub mod ActsFit
 pub mod Controls
 pub mod Reading

@@ -21,7 +21,8 @@ use Rattle.gb_invariants.proofs.Lists.{each-from, found-in, in-front, in-pushed}
 use Rattle.gb_invariants.proofs.{Awaiting.none-some, Awaiting.same-some, Numbers.found-by_number}
 use Rattle.gb_invariants.specs.Facts.{NumbersRise}
 use Rattle.gb_invariants.proofs.HostChanges.{Notice, turn_of}
-use Rattle.gb_laws.proofs.links.LinkKept.{InsertsAbsent, LinkedAt, same-links, turn-fits}
+use Rattle.gb_laws.proofs.links.LinkKept.{InsertsAbsent, LinkedAt, allowed}
+use Rattle.gb_laws.proofs.links.LinkTurns.{turn-fits}
 use Rattle.gb_laws.proofs.links.LinkLeaves.{WhyLeft, closed, removed, why-left}
 use Rattle.gb_laws.proofs.links.LinkRuns.{LinkedTo, linked-over, linked-throughout, start-absent}
 use Rattle.gb_laws.proofs.links.Links.{ArePending, HostFits, IsFollowed, leaves, stays}
@@ -79,8 +80,7 @@ linked-turned : (m : Moment) → InsertsAbsent m → (e : Notice) {b : Bus} {h :
     → Linked b h [] → IsCaused m e h → IsOver m e b → length m.before.bus.requests < n
     → n ≤ length b.requests → IsLinked k h → IsLinked k (turn_of e h).host
 linked-turned m absent e {b} {h} n k links cause over new made x =
-    by ((turn-fits m b e h absent cause links.host).followed x.link
-    (subst (λ ls. IsIn x.link ls) (sym (same-links e h)) x.known))
+    by ((turn-fits e (allowed m absent e h cause) links.host).followed x.link x.known)
   where
     by : IsFollowed x.link (turn_of e h).host.links (turn_of e h).acts
         → IsLinked k (turn_of e h).host
@@ -165,7 +165,7 @@ since-kept m absent a (acts_asked q n rest is) basis links r h = record {
 
     stay : Stay a.state.host.links (awaits q.purpose n a.state.host).links
     stay = (awaits-fits q.purpose n links.host
-        (subst (ArePending a.state.host) is.0 links.pending).0.0).1.stay
+        (subst (ArePending a.state.host) is.0 links.pending).0.0).1
 
     News : List (ℕ × ℕ) → Type 0
     News pairs = (j k : ℕ) → IsIn (j, k) pairs → IsIn (j, k) m.before.past.made_for

@@ -148,7 +148,7 @@ module _ (m : Moment) (i : ℕ) where
     where
       stay : Stay a.state.host.links (awaits q.purpose n a.state.host).links
       stay = (awaits-fits {b = a.state.bus} q.purpose n {h = a.state.host} f.links.host
-          (subst (ArePending a.state.host) is.0 f.links.pending).0.0).1.stay
+          (subst (ArePending a.state.host) is.0 f.links.pending).0.0).1
 
       Unknown : ℕ → Type 0
       Unknown c = (l : Link) → IsIn l (awaits q.purpose n a.state.host).links → l.connection ≡ c → ⊥

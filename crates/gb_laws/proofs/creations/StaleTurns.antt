@@ -16,7 +16,8 @@ use Rattle.gb_invariants.proofs.Outcomes.{both-true, is-same, same-number}
 use Rattle.gb_invariants.proofs.{Awaiting.not-both, Found.find-none, HostChanges.IsAnswered}
 use Rattle.gb_invariants.proofs.{Lists.found-in, Lists.in-without}
 use Rattle.gb_invariants.proofs.HostChanges.{Notice, at_removal, turn_of}
-use Rattle.gb_laws.proofs.links.LinkKept.{InsertsAbsent, same-links, turn-fits}
+use Rattle.gb_laws.proofs.links.LinkKept.{InsertsAbsent, allowed}
+use Rattle.gb_laws.proofs.links.LinkTurns.{turn-fits}
 use Rattle.gb_laws.proofs.links.LinkLeaves.{WhyLeft, closed, removed, why-left}
 use Rattle.gb_laws.proofs.links.Links.{IsFollowed, leaves, stays}
 use Rattle.gb_laws.proofs.points.PointParts.{IsCaused, IsDeparting, Point, resting}
@@ -29,7 +30,7 @@ use Rattle.gb_laws.proofs.{links.Departing.departing-handled, links.LinkLists.on
 use Rattle.gb_laws.proofs.{marks.Marks.MarksFit}
 use Rattle.gb_laws.proofs.{points.Points.IsOver}
 use Rattle.gb_laws.proofs.{removals.Quiet.IsQuiet, removals.Quiet.is_removed}
-use Rattle.gb_laws.proofs.{removals.QuietAwaited.waited-by}
+use Rattle.gb_laws.proofs.{links.Waited.waited-enum}
 use Rattle.gb_laws.proofs.{removals.QuietRuns.waits-before, creations.StaleBase.NoticedStill}
 use Rattle.gb_laws.proofs.{creations.StaleBase.StaleBase, svc.SvcOrder.none-earlier}
 
@@ -133,8 +134,8 @@ module _ (m : Moment) (absent : InsertsAbsent m) (i : ℕ)
               a.state.host.links l g in
               let on = same-number l.connection s.connection found.1 in
               inr (followed l found.0 on
-              ((turn-fits m a.state.bus e a.state.host absent cause links.host).followed l
-              (subst (λ ls. IsIn l ls) (sym (same-links e a.state.host)) found.0)))
+              ((turn-fits e (allowed m absent e a.state.host cause) links.host).followed l
+              found.0))
 
       -- where the removal is handled
       departs : Goes → IsDeparting m i a.state.host
@@ -163,10 +164,10 @@ module _ (m : Moment) (absent : InsertsAbsent m) (i : ℕ)
       calm : (p : Purpose) → IsAnswered e a.state.host p → p.intf ≡ i
           → is_power_step p.step ≡ true → HasNoStale i b
       calm p r at power j s = ⊎_elim (λ o.
-          let x = waited-by r.number a.state.host p links.host.links.waiting r.awaited power in
+          let step = both-true (is_enumeration p.step) (not (asks_control p.step)) power in
+          let x = waited-enum r.number p links.host r.awaited step.0 in
           let own = f.own.waits x.interface x.known (r.number, p.step) x.awaits in
-          let svc = own.svc (unmarked (asks_control p.step)
-          (both-true (is_enumeration p.step) (not (asks_control p.step)) power).1) in
+          let svc = own.svc (unmarked (asks_control p.step) step.1) in
           let ended = (subst (λ y. IsOver m y a.state.bus) r.is over) r.result r.payload refl in
           let less =
           h.waits x.interface x.known (x.intf ∙ at) (r.number, p.step) x.awaits power j o in

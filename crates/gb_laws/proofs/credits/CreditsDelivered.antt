@@ -39,7 +39,7 @@ use Rattle.gb_laws.proofs.{links.LinkLists.found-link, links.LinkRuns.LinkedTo}
 use Rattle.gb_laws.proofs.{links.Links.SameLink, points.Places.place-is}
 use Rattle.gb_laws.proofs.{points.PointParts.IsServed, points.Points.IsBridge}
 use Rattle.gb_laws.proofs.{links.Removing.delivered-state}
-use Rattle.gb_laws.proofs.{runs.SettleQueues.IsFarEnd, links.Turned.svc-host}
+use Rattle.gb_laws.proofs.{runs.SettleQueues.IsFarEnd, links.LinkActs.svc-host}
 use Rattle.gb_laws.proofs.{steps.DeliveredHands.request-popped}
 
 -- the front item at a place was taken

@@ -12,7 +12,7 @@ use Rattle.gb_machine.specs.{SequenceSteps.is_enumeration, Sequences.enumerated,
 use Rattle.gb_invariants.proofs.HostChanges.{Finds, HostChange, HostEnd, IsAnswered, IsAskedAt}
 use Rattle.gb_invariants.proofs.HostChanges.{IsLast, Occasion, TurnLaw, acts_by, at_notice}
 use Rattle.gb_invariants.proofs.HostChanges.{at_unsent, changes-ask, end_of, host_after}
-use Rattle.gb_invariants.proofs.HostChanges.{step_behind, to_close, to_connect, to_disconnect}
+use Rattle.gb_invariants.proofs.HostChanges.{step_behind, to_close, to_connect}
 use Rattle.gb_invariants.proofs.HostChanges.{to_enumerate, to_go_on}
 use Rattle.gb_invariants.proofs.{Awaiting.none-some, Awaiting.not-both, Found.in-ordered}
 use Rattle.gb_invariants.proofs.{Lists.in-without, OverTurns.over-turn, OverFailures.over-unsent}
@@ -60,7 +60,7 @@ turn-waits e h = over-turn e h (waits_law (at_notice e h))
 
 -- nor does what fails where no identifier is left
 pub waits-unsent : (p : Purpose) (h : Host) → WaitsFewer h (unsent p h).host
-waits-unsent p h = over-unsent p h (waits_law (at_unsent p))
+waits-unsent p h = over-unsent p h (waits_law (at_unsent p h))
 
 -- ---- what is asked
 
@@ -71,21 +71,21 @@ change-asks x h j = asks-behind (acts_by x h) (changes-ask x h) j
 
 end-asks : (e : Notice) (before : Host) (x : HostEnd) (h : Host)
     → IsLast (at_notice e before) h x → (q : Asking) → AsksIn q (end_of x h).acts
-    → IsAskedAt e before q.purpose
+    → IsAskedAt e before q.purpose h
 end-asks e before HostEnd.rests h last q j = absurd (no-asks j)
 end-asks e before (HostEnd.asks k p) h last q j =
-    subst (λ (r : Asking). IsAskedAt e before r.purpose) (asked-alone j) last.0
+    subst (λ (r : Asking). IsAskedAt e before r.purpose h) (asked-alone j) last.0
 end-asks e before (HostEnd.makes a protocol p) h last q j =
-    subst (λ (r : Asking). IsAskedAt e before r.purpose) (opened-alone _ j) last
+    subst (λ (r : Asking). IsAskedAt e before r.purpose h) (opened-alone _ j) last.0
 end-asks e before (HostEnd.enumerates p bytes) h last q j =
     absurd (no-asks (asks-behind (_ ∷ []) (tt, tt) j))
 
 -- Why a request of a turn is made.
 pub asked-why : (e : Notice) (h : Host) (q : Asking) → AsksIn q (turn_of e h).acts
-    → IsAskedAt e h q.purpose
+    → (g : Host) × IsAskedAt e h q.purpose g
 asked-why e h = over-turn e h (record {
-  says = λ g t. (q : Asking) → AsksIn q t.acts → IsAskedAt e h q.purpose;
-  ends = λ x g last. end-asks e h x g last;
+  says = λ g t. (q : Asking) → AsksIn q t.acts → (k : Host) × IsAskedAt e h q.purpose k;
+  ends = λ x g last q j. (g, end-asks e h x g last q j);
   over = λ x g t finds why s q j. s q (change-asks x g j);
 })
 
@@ -114,18 +114,17 @@ pub asks-calm : (i : ℕ) (Calm : Type 0) (e : Notice) (h : Host)
     → ((p : Purpose) → IsAnswered e h p → p.intf ≡ i → is_power_step p.step ≡ true → Calm)
     → (q : Asking) → AsksIn q (turn_of e h).acts → q.purpose.intf ≡ i
     → is_power_step q.purpose.step ≡ true → (q.purpose.step ≡ steps.EnableVsys) ⊎ Calm
-asks-calm i Calm e h calm q j at power = by (asked-why e h q j)
+asks-calm i Calm e h calm q j at power = by (asked-why e h q j).1
   where
     none : {A : Type 0} (p : Purpose) → q.purpose ≡ p → is_power_step p.step ≡ false → A
     none p is other = absurd (not-both (is_power_step q.purpose.step) power
         (ap (λ (x : Purpose). is_power_step x.step) is ∙ other))
 
-    by : IsAskedAt e h q.purpose → (q.purpose.step ≡ steps.EnableVsys) ⊎ Calm
-    by (to_enumerate p k f is) = inl (ap (λ (x : Purpose). x.step) is)
-    by (to_connect k c f is) = none _ is refl
-    by (to_disconnect k c l f found is) = none _ is refl
-    by (to_close d l why found is) = none _ is refl
-    by (to_go_on last step answered next is) =
+    by : {g : Host} → IsAskedAt e h q.purpose g → (q.purpose.step ≡ steps.EnableVsys) ⊎ Calm
+    by (to_enumerate p k f is here) = inl (ap (λ (x : Purpose). x.step) is)
+    by (to_connect k c f is here) = none _ is refl
+    by (to_close k c l why found is here) = none _ is refl
+    by (to_go_on last step answered next is here) =
         inr (calm last answered (ap (λ (x : Purpose). x.intf) (sym is) ∙ at)
         (power-behind last.step (ap (holds_of is_power_step) next
         ∙ ap (λ (x : Purpose). is_power_step x.step) (sym is) ∙ power)))

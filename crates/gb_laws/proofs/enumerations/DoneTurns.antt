@@ -91,5 +91,5 @@ module _ (i : ℕ) where
   pub keeps-unsent : (p : Purpose) {h : Host}
       → (is_enumeration p.step ≡ true → p.intf ≡ i → IsDone i h.interfaces → ⊥)
       → KeepsDone i h (unsent p h).host
-  keeps-unsent p {h} undone = over-unsent p h (keeps_law (at_unsent p) h
+  keeps-unsent p {h} undone = over-unsent p h (keeps_law (at_unsent p h) h
       (λ j f at. undone f.0 (f.1 ∙ at)) (λ j g f. absurd f)) (λ d. d)

@@ -6,22 +6,19 @@ use Rattle.std.specs.Prelude.{is_none, ◌==◌}
 use Rattle.gb_base.specs.declared.entry.IntfStage.{IntfStage}
 use Rattle.gb_base.specs.declared.interface.{Interface.Interface, Link.Link}
 use Rattle.gb_base.specs.declared.steps.Purpose.{Purpose}
-use Rattle.gb_base.specs.declared.end.Side.TheVariants as side
 use Rattle.gb_base.specs.declared.entry.IntfStage.TheVariants as stage
-use Rattle.gb_base.specs.declared.event.Event.TheVariants as event
-use Rattle.gb_base.specs.declared.refusal.Refusal.TheVariants as why
-use Rattle.gb_machine.proofs.Conditions.{AreUnmet, free, front-unmet}
-use Rattle.gb_machine.specs.Host.{Host, control_of, interface_of, is_intf, is_link, with_given}
+use Rattle.gb_machine.proofs.Conditions.{AreUnmet, free}
+use Rattle.gb_machine.specs.Host.{Host, interface_of, is_intf, with_given}
 use Rattle.gb_machine.specs.Host.{with_link}
-use Rattle.gb_machine.specs.HostRefusals.{connect_conditions, disconnect_conditions, is_enumerating}
+use Rattle.gb_machine.specs.HostRefusals.{connect_conditions, is_enumerating}
 use Rattle.gb_machine.specs.HostRefusals.{is_failed_stage}
 use Rattle.gb_machine.specs.Turns.{Act, Asking}
 use Rattle.gb_machine.specs.{Failures.unsent, HostServing.host_serves, HostServing.with_credits}
 use Rattle.gb_machine.specs.{LineActions.spent, Lists.holds_of, Members.IsIn}
-use Rattle.gb_machine.specs.{Refusals.has_no_label, Runs.Moment, SequenceSteps.is_enumeration}
+use Rattle.gb_machine.specs.{Runs.Moment, SequenceSteps.is_enumeration}
 use Rattle.gb_machine.specs.{State.State, Waits.awaited, Waits.awaits, Wiring.next_connection}
 use Rattle.gb_invariants.proofs.HostChanges.{HostChange, IsAskedAt, at_notice, to_close, to_connect}
-use Rattle.gb_invariants.proofs.HostChanges.{to_disconnect, to_enumerate, to_go_on}
+use Rattle.gb_invariants.proofs.HostChanges.{to_enumerate, to_go_on}
 use Rattle.gb_invariants.proofs.Lists.{found-in, in-pushed, in-without}
 use Rattle.gb_invariants.proofs.{Awaiting.not-both, Outcomes.is-same, Outcomes.same-number}
 use Rattle.gb_invariants.proofs.{OverTurns.over-turn}
@@ -31,7 +28,7 @@ use Rattle.gb_laws.proofs.enumerations.AskedWaits.{AsksIn, asks-behind, asks_in,
 use Rattle.gb_laws.proofs.enumerations.DoneStays.{KeepsDone, NoneRemoved, keeps-same, keeps-waiting}
 use Rattle.gb_laws.proofs.links.LinkActs.{ServedHost, as_before, awaited-host, host-served}
 use Rattle.gb_laws.proofs.links.LinkActs.{with_images, with_more}
-use Rattle.gb_laws.proofs.links.LinkEnds.{WaitsFor, connecting, enumerating, waits-for}
+use Rattle.gb_laws.proofs.links.Waited.{WaitsFor, connecting, enumerating, waited-enum, waits-for}
 use Rattle.gb_laws.proofs.links.LinkSources.{from-turn, from-unsent, from-waiting}
 use Rattle.gb_laws.proofs.links.Links.{ArePending, IsFree, IsMaking, connection, control}
 use Rattle.gb_laws.proofs.points.Points.{Change, IsAsking, acts_asked, acts_failed, acts_made}
@@ -42,11 +39,11 @@ use Rattle.gb_laws.proofs.{creations.CreatingKept.came-from}
 use Rattle.gb_laws.proofs.{creations.CreatingKept.came-link, enumerations.DoneTurns.keeps-unsent}
 use Rattle.gb_laws.proofs.{enumerations.DoneTurns.keeps_law}
 use Rattle.gb_laws.proofs.{enumerations.EnumDone.IsDone, enumerations.EnumSettled.IsSettled}
-use Rattle.gb_laws.proofs.{enumerations.EnumSettled.waited-enum}
 use Rattle.gb_laws.proofs.{links.LinkBuses.new_link, links.LinkHosts.credits-link}
 use Rattle.gb_laws.proofs.{links.LinkHosts.same-link}
-use Rattle.gb_laws.proofs.{links.LinkKept.InsertsAbsent, links.LinkKept.LinkedAt}
-use Rattle.gb_laws.proofs.{links.LinkLists.link-is}
+use Rattle.gb_laws.proofs.links.LinkDue.{IsAllowed, closes-idle}
+use Rattle.gb_laws.proofs.links.LinkKept.{InsertsAbsent, LinkedAt, allowed}
+use Rattle.gb_laws.proofs.{links.LinkLists.found-its}
 use Rattle.gb_laws.proofs.{points.PointParts.IsCaused, points.PointParts.Point}
 
 pub record LinksDone (i : ℕ) (a : Point) : Type 0 where
@@ -109,13 +106,13 @@ module _ (m : Moment) (absent : InsertsAbsent m) (i : ℕ) (a : Point) (links : 
   -- and one of a connection one of an interface that is
   behind : (n : ℕ) (p : Purpose) → awaited n a.state.host ≡ Some p → is_enumeration p.step ≡ false
       → p.intf ≡ i → IsDone i a.state.host.interfaces
-  behind n p e s at = by (waits-for n p links.host e)
+  behind n p e s at = by (waits-for n a.state.host p e)
     where
-      by : WaitsFor a.state.host p → IsDone i a.state.host.interfaces
-      by (enumerating x j intf cport w waits step) = absurd (not-both (is_enumeration p.step)
-          (ap is_enumeration step ∙ (links.host.interfaces x j w waits).0) s)
-      by (connecting l j intf cport w waits step) =
-          h.links l j (sym intf ∙ at) (links.host.links.waiting l j w waits).0
+      by : WaitsFor a.state.host n p → IsDone i a.state.host.interfaces
+      by (enumerating x j intf cport waits) = absurd (not-both (is_enumeration p.step)
+          (links.host.interfaces x j (n, p.step) waits).0 s)
+      by (connecting l j intf cport waits) =
+          h.links l j (intf ∙ at) (links.host.links.waiting l j (n, p.step) waits).0
 
   turn-keeps : (e : Notice) → ((j : ℕ) → e ≡ at_removal j → (j == i) ≡ false)
       → KeepsDone i a.state.host (turn_of e a.state.host).host
@@ -126,43 +123,23 @@ module _ (m : Moment) (absent : InsertsAbsent m) (i : ℕ) (a : Point) (links : 
   asks-done : (e : Notice) → IsCaused m e a.state.host → (q : Asking)
       → AsksIn q (turn_of e a.state.host).acts → q.purpose.intf ≡ i
       → is_enumeration q.purpose.step ≡ false → IsDone i a.state.host.interfaces
-  asks-done e cause q k at s = by (asked-why e a.state.host q k)
+  asks-done e cause q k at s = by (asked-why e a.state.host q k).1
     where
       where-asked : {p : Purpose} → q.purpose ≡ p → p.intf ≡ i
       where-asked is = ap (λ (x : Purpose). x.intf) (sym is) ∙ at
 
-      by : IsAskedAt e a.state.host q.purpose → IsDone i a.state.host.interfaces
-      by (to_enumerate p j f is) = absurd (not-both (is_enumeration q.purpose.step)
+      by : {g : Host} → IsAskedAt e a.state.host q.purpose g → IsDone i a.state.host.interfaces
+      by (to_enumerate p j f is here) = absurd (not-both (is_enumeration q.purpose.step)
           (ap (λ (x : Purpose). is_enumeration x.step) is) s)
-      by (to_connect j c f is) =
-          let cause' = subst (λ y. IsCaused m y a.state.host) f cause in
+      by (to_connect j c f is here) =
           connects-done i j c a.state.host h.stages
-          (subst (λ g. AreUnmet (connect_conditions j c g)) (sym cause'.0)
-          (front-unmet (connect_conditions j c m.before.host)
-          ((has_no_label 1 side.Ap m.before, why.NoLabel) ∷ [])
-          (free m.before (event.Connect j c) cause'.2))) (where-asked is)
-      by (to_disconnect j c l f e is) =
-          let found = found-in (is_link j c) a.state.host.links l e in
-          let same = link-is j c l found.1 in
-          h.links l found.0 (same.0 ∙ where-asked is) (λ zero. not-both (c == 0)
-          (ap (λ n. n == 0) (sym same.1 ∙ zero)) met.1.0)
-        where
-          met : AreUnmet (disconnect_conditions j c a.state.host)
-          met =
-              let cause' = subst (λ y. IsCaused m y a.state.host) f cause in
-              subst (λ g. AreUnmet (disconnect_conditions j c g)) (sym cause'.0)
-              (front-unmet (disconnect_conditions j c m.before.host) ((
-                holds_of (λ k. has_no_label k side.Ap m.before) (control_of j m.before.host),
-                why.NoLabel,
-              ) ∷ []) (free m.before (event.Disconnect j c) cause'.2))
-      by (to_close d l why e is) =
-          let live =
-          (found-in (λ x. x.connection == why.number) a.state.host.links d why.found).0 in
-          let found = found-in (is_link d.intf d.cport) a.state.host.links l e in
-          let same = link-is d.intf d.cport l found.1 in
-          h.links l found.0 (same.0 ∙ where-asked is) (λ zero.
-          links.host.links.draining d live why.drains (sym same.1 ∙ zero))
-      by (to_go_on last step r next is) = behind r.number last r.awaited
+          (subst (λ y. IsAllowed y a.state.host) f (allowed m absent e a.state.host cause)).0
+          (where-asked is)
+      by (to_close j c l why found is here) =
+          let its = found-its j c a.state.host.links l found in
+          h.links l its.0 (its.1 ∙ where-asked is) (λ zero. (closes-idle j c l links.host
+          (allowed m absent e a.state.host cause) why found).0 (sym its.2 ∙ zero))
+      by (to_go_on last step r next is here) = behind r.number last r.awaited
           (same-kind last.step next ∙ ap (λ (x : Purpose). is_enumeration x.step) (sym is) ∙ s)
           (where-asked is)
 

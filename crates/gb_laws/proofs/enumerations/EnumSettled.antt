@@ -1,13 +1,13 @@
 -- Where the enumeration of an interface waits for its module, or is done, none of its requests
 -- waits toward the supervisory controller: at each point of a step.
-use Rattle.std.proofs.Common.{Bool, List, None, Option, Some, ap, arith, false, inl, inr, refl}
+use Rattle.std.proofs.Common.{Bool, List, None, Some, ap, arith, false, inl, inr, refl}
 use Rattle.std.proofs.Common.{subst, sym, true, ℕ, ⊎_elim, [], ◌∙◌, ◌∷◌, ◌≡◌}
 use Rattle.std.specs.Prelude.{is_some, not, ◌&&◌}
 use Rattle.gb_base.specs.declared.interface.Interface.{Interface}
 use Rattle.gb_base.specs.declared.steps.{Purpose.Purpose, SequenceStep.SequenceStep}
 use Rattle.gb_machine.specs.Turns.{Act, Asking}
-use Rattle.gb_machine.specs.Waits.{awaited, awaits_nothing, interface_waits, link_waits}
-use Rattle.gb_machine.specs.{Bus.Bus, Bus.or_else, Host.Host, Host.interface_of}
+use Rattle.gb_machine.specs.Waits.{awaited, awaits_nothing}
+use Rattle.gb_machine.specs.{Bus.Bus, Host.Host, Host.interface_of}
 use Rattle.gb_machine.specs.{HostActs.host_draft, LawsBus.is_awaited}
 use Rattle.gb_machine.specs.{Members.IsIn, Runs.Moment, Sending.requested, Sending.sent}
 use Rattle.gb_machine.specs.{SequenceSteps.asks_control, SequenceSteps.is_enumeration, State.State}
@@ -17,10 +17,11 @@ use Rattle.gb_invariants.proofs.HostChanges.{Notice, turn_of}
 use Rattle.gb_invariants.proofs.HostChanges.{at_insertion}
 use Rattle.gb_laws.proofs.enumerations.AskedWaits.{AsksIn, WaitsFewer, asks_in, opens_in}
 use Rattle.gb_laws.proofs.enumerations.EnumNone.{IsNone, none-enums, none-sent}
-use Rattle.gb_laws.proofs.links.LinkEnds.{resumed, step-connects, waits-for, waits-link}
+use Rattle.gb_laws.proofs.links.LinkEnds.{waited-due}
+use Rattle.gb_laws.proofs.links.Waited.{IsWaitedBy, waited-enum}
 use Rattle.gb_laws.proofs.links.Links.{ArePending, HostFits, IsDue, IsDueBy, IsFormed, IsResting}
 use Rattle.gb_laws.proofs.points.PointParts.{Basis, IsCaused, Point}
-use Rattle.gb_laws.proofs.removals.QuietAwaited.{IsWaitedBy, none-over, waited-in}
+use Rattle.gb_laws.proofs.removals.QuietAwaited.{none-over}
 use Rattle.gb_laws.proofs.{enumerations.Asked.turn-waits, enumerations.EnumDone.IsDone}
 use Rattle.gb_laws.proofs.{enumerations.EnumRequests.formed-enumerates}
 use Rattle.gb_laws.proofs.{links.LinkKept.InsertsAbsent, links.LinkKept.LinkedAt}
@@ -153,25 +154,11 @@ settled-asked i a {b} q rest label basis links there moves pending state same h 
 
 -- ---- a turn
 
--- what an enumeration waits for, where that ended
-pub waited-enum : {b : Bus} (n : ℕ) {h : Host} (p : Purpose) → HostFits b h → awaited n h ≡ Some p
-    → is_enumeration p.step ≡ true → IsWaitedBy h n p
-waited-enum n {h} p fits e s = by (interface_waits n h.interfaces) refl e
-  where
-    by : (o : Option Purpose) → interface_waits n h.interfaces ≡ o
-        → or_else o (link_waits n h.links) ≡ Some p → IsWaitedBy h n p
-    by None f g =
-        let r = waits-link n h.links p g in
-        absurd (not-both (is_enumeration p.step) s (ap is_enumeration r.step
-        ∙ step-connects r.what.1 r.link.state (fits.links.waiting r.link r.live r.what r.awaits).1))
-    by (Some q) f g = let w = waited-in n h.interfaces p (f ∙ g) in
-        record { interface = w.0; known = w.1; intf = w.2; awaits = w.3 }
-
 -- its interface waits for nothing then
 waits-none : {b : Bus} (n : ℕ) {h : Host} (p : Purpose) → HostFits b h → awaited n h ≡ Some p
     → is_enumeration p.step ≡ true → IsResting p.intf (awaits_nothing p h).interfaces
-waits-none {b} n {h} p fits e s =
-    by (is_enumeration p.step) s (resumed b p h fits (waits-for n p fits e)).due
+waits-none n {h} p fits e s =
+    by (is_enumeration p.step) s (waited-due n p fits e)
   where
     by : (t : Bool) → t ≡ true → IsDueBy t p.step p (awaits_nothing p h)
         → IsResting p.intf (awaits_nothing p h).interfaces

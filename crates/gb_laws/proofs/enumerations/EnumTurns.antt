@@ -10,7 +10,7 @@ use Rattle.gb_machine.specs.{Host.Host, Host.is_intf}
 use Rattle.gb_machine.specs.{SequenceSteps.is_enumeration, Sequences.enumerated}
 use Rattle.gb_machine.specs.{Waits.awaits_nothing}
 use Rattle.gb_invariants.proofs.HostChanges.{HostEnd, IsAnswered, IsAskedAt, IsLast, at_notice}
-use Rattle.gb_invariants.proofs.HostChanges.{end_of, to_close, to_connect, to_disconnect}
+use Rattle.gb_invariants.proofs.HostChanges.{end_of, to_close, to_connect}
 use Rattle.gb_invariants.proofs.HostChanges.{to_enumerate, to_go_on}
 use Rattle.gb_invariants.proofs.{Awaiting.not-both, Lists.in-at_first, Outcomes.same-number}
 use Rattle.gb_invariants.proofs.{OverTurns.over-turn}
@@ -66,7 +66,7 @@ module _ (i : ℕ) (May : SequenceStep → Type 0) (Calm : Type 0) (e : Notice) 
   pub turn-enums : ((p j : ℕ) → e ≡ at_insertion p j → j ≡ i → May steps.EnableVsys)
       → TurnEnums i May Calm h (turn_of e h)
   turn-enums may = record {
-    asks = λ q j at s. by q at s (asked-why e h q j);
+    asks = λ q j at s. by q at s (asked-why e h q j).1;
     done = over-turn e h (record {
       says = λ g t. IsDoneFrom i Calm g t;
       ends = λ x g last. end-enums x g last;
@@ -76,18 +76,15 @@ module _ (i : ℕ) (May : SequenceStep → Type 0) (Calm : Type 0) (e : Notice) 
   }
     where
       by : (q : Asking) → q.purpose.intf ≡ i → is_enumeration q.purpose.step ≡ true
-          → IsAskedAt e h q.purpose → May q.purpose.step
-      by q at s (to_enumerate p j f is) = subst May (ap (λ (x : Purpose). x.step) (sym is))
+          → {g : Host} → IsAskedAt e h q.purpose g → May q.purpose.step
+      by q at s (to_enumerate p j f is here) = subst May (ap (λ (x : Purpose). x.step) (sym is))
           (may p j f (ap (λ (x : Purpose). x.intf) (sym is) ∙ at))
-      by q at s (to_connect j c f is) = absurd (not-both (is_enumeration q.purpose.step) s
+      by q at s (to_connect j c f is here) = absurd (not-both (is_enumeration q.purpose.step) s
           (ap (λ (x : Purpose). is_enumeration x.step) is))
-      by q at s (to_disconnect j c l f found is) =
+      by q at s (to_close j c l why found is here) =
           absurd (not-both (is_enumeration q.purpose.step) s
           (ap (λ (x : Purpose). is_enumeration x.step) is))
-      by q at s (to_close d l why found is) =
-          absurd (not-both (is_enumeration q.purpose.step) s
-          (ap (λ (x : Purpose). is_enumeration x.step) is))
-      by q at s (to_go_on last step answered next is) =
+      by q at s (to_go_on last step answered next is here) =
           (calm last answered (ap (λ (x : Purpose). x.intf) (sym is) ∙ at)
           (same-kind last.step next ∙ ap (λ (x : Purpose). is_enumeration x.step) (sym is)
           ∙ s)).1 q.purpose.step

@@ -24,6 +24,7 @@ use Rattle.gb_machine.specs.SequenceSteps.{is_enumeration}
 use Rattle.gb_machine.specs.Serving.{protocol_bad}
 use Rattle.gb_machine.specs.State.{State}
 use Rattle.gb_machine.specs.Waits.{waiting}
+use Rattle.gb_invariants.proofs.HostChanges.{waiting-by}
 use Rattle.gb_invariants.proofs.HostChanges.{HostChange, HostEnd, Notice, Occasion, TurnLaw}
 use Rattle.gb_invariants.proofs.HostChanges.{at_notice, at_unsent, end_of, host_after, turn_of}
 use Rattle.gb_invariants.proofs.Lists.{found-in}
@@ -33,7 +34,7 @@ use Rattle.gb_invariants.proofs.OverTurns.{over-turn}
 use Rattle.gb_laws.proofs.firmware.ImageFacts.{Fewer, Steps, all-fewer, forgotten-fewer, same-fewer}
 use Rattle.gb_laws.proofs.firmware.ImageFacts.{steps-read, then-fewer}
 use Rattle.gb_laws.proofs.links.LinkActs.{awaited-host}
-use Rattle.gb_laws.proofs.links.Turned.{svc-host}
+use Rattle.gb_laws.proofs.links.LinkActs.{svc-host}
 use Rattle.gb_laws.proofs.points.PointParts.{Point}
 use Rattle.gb_laws.proofs.points.Points.{Change, IsServed, acts_asked, acts_failed, changed, gives}
 use Rattle.gb_laws.proofs.points.Points.{serves, turns}
@@ -68,18 +69,12 @@ turn-fewer : (e : Notice) (h : Host) → Fewer h.images (turn_of e h).host.image
 turn-fewer e h = over-turn e h (fewer_law (at_notice e h))
 
 unsent-fewer : (p : Purpose) (h : Host) → Fewer h.images (unsent p h).host.images
-unsent-fewer p h = over-unsent p h (fewer_law (at_unsent p))
+unsent-fewer p h = over-unsent p h (fewer_law (at_unsent p h))
 
 awaited-images : (p : Purpose) (n : ℕ) (s : State)
     → (with_awaited p n s).host.images ≡ s.host.images
-awaited-images p n s = ap (λ (h : Host). h.images) (awaited-host p n s) ∙ by (is_enumeration p.step)
-  where
-    by : (t : Bool) → (cond t
-        (with_interface p.intf (λ y. record y { awaits = Some (n, p.step) }) s.host)
-        (with_link p.intf p.cport (λ l. record l { awaits = Some (n, p.step) }) s.host)).images
-        ≡ s.host.images
-    by true = refl
-    by false = refl
+awaited-images p n s = ap (λ (h : Host). h.images) (awaited-host p n s)
+    ∙ waiting-by (λ h. h.images ≡ s.host.images) (Some (n, p.step)) p s.host (λ e. refl) (λ e. refl)
 
 -- ---- what is served
 

@@ -22,7 +22,7 @@ use Rattle.gb_machine.specs.Failures.{step_fails, told_of}
 use Rattle.gb_machine.specs.Host.{in_state, is_draining, link_of, with_freed, with_link}
 use Rattle.gb_machine.specs.SequenceSteps.{purpose}
 use Rattle.gb_invariants.proofs.HostChanges.{Finds, HostChange, HostEnd, IsClosingFor, IsFor}
-use Rattle.gb_invariants.proofs.HostChanges.{IsOfNone, MayTurnTo, Occasion, TurnLaw, acts_by}
+use Rattle.gb_invariants.proofs.HostChanges.{IsOfNone, Occasion, TurnLaw, TurnsFor, acts_by}
 use Rattle.gb_invariants.proofs.HostChanges.{at_notice, at_unsent, by_disconnect, by_idle, end_of}
 use Rattle.gb_invariants.proofs.{Lists.each-append, OverTurns.over-turn, OverFailures.over-unsent}
 use Rattle.gb_invariants.proofs.Outcomes.{same-number}
@@ -69,9 +69,10 @@ quiet-none (entry.Interface i to) of = refl
 quiet-none (entry.Manifest i at why) of = refl
 quiet-none _ of = absurd of
 
-quiet-turned : (to : ConnState) (l : Link) → MayTurnTo to → is_quiet (link_told to l) ≡ true
-quiet-turned state.Opening l may = absurd may
-quiet-turned _ l may = refl
+quiet-turned : (o : Occasion) (h : Host) (i c : ℕ) (to : ConnState) (l : Link)
+    → TurnsFor to o h i c → is_quiet (link_told to l) ≡ true
+quiet-turned o h i c state.Opening l why = absurd why
+quiet-turned o h i c _ l why = refl
 
 -- where what closes the side of a connection is its cause
 module _ (Cause : ℕ → Type 0) (o : Occasion)
@@ -92,7 +93,7 @@ module _ (Cause : ℕ → Type 0) (o : Occasion)
       fit-left (links_of i h) (λ l j. departing i l h why j)
   change-fits (HostChange.turns_to i c to None) h finds why = tt
   change-fits (HostChange.turns_to i c to (Some l)) h finds why =
-      (quiet-turned to l finds.1, tt)
+      (quiet-turned o h i c to l why, tt)
   change-fits (HostChange.closes i c l) h found why =
       (closing i c l h why found, (refl, tt))
   change-fits (HostChange.leaves p None) h finds why = tt
@@ -118,18 +119,19 @@ pub fit-other : (m : Moment) (e : Notice) (h : Host)
     → AreEverFit m (turn_of e h).acts
 fit-other m e h other cause =
     over-turn e h (fit_law (λ k. (b : Bus) → IsShutFor m k b) (at_notice e h)
-    (λ i c l g why found. closing i c l g found why) (λ i l g why j b.
+    (λ i c l g why found. closing i c l (ap (link_at i c) (sym why.1) ∙ found) why.0)
+    (λ i l g why j b.
     let k = subst (λ y. IsCaused m y h) why.0 cause in
     let of = in-filter (λ (x : Link). x.intf == i) g.links l j in
     removed k.primary i l k.noticed k.known (filter-in (λ (x : Link). x.intf == i)
     m.before.host.links l (k.links l (subst (λ (y : Host). IsIn l y.links) why.1 of.0)) of.1) refl))
   where
-    closing : (i c : ℕ) (l : Link) (g : Host) → link_at i c g ≡ Some l
-        → IsClosingFor (at_notice e h) g i c → (b : Bus) → IsShutFor m l.connection b
-    closing i c l g found (by_disconnect why) b =
-        let k = subst (λ y. IsCaused m y h) why.0 cause in
-        disconnected i c l k.1 (ap (link_at i c) (sym (why.1 ∙ k.0)) ∙ found) refl
-    closing i c l g found (by_idle d why intf cport) b = absurd (other why.0.number why.0.is)
+    closing : (i c : ℕ) (l : Link) → link_at i c h ≡ Some l
+        → IsClosingFor e h i c → (b : Bus) → IsShutFor m l.connection b
+    closing i c l found (by_disconnect is) b =
+        let k = subst (λ y. IsCaused m y h) is cause in
+        disconnected i c l k.1 (ap (link_at i c) (sym k.0) ∙ found) refl
+    closing i c l found (by_idle d why intf cport) b = absurd (other why.number why.is)
 
 -- where one is, its side is closed first
 fit-idle : (m : Moment) (b : Bus) (k : ℕ) (h : Host) → FirstDrains h.links
@@ -179,5 +181,5 @@ tells-quiet Cause (e ∷ es) h = (h.0, tells-quiet Cause es h.1)
 -- what is told where a request can't be made
 pub quiet-unsent : (p : Purpose) (h : Host) → AreQuiet (unsent p h).told
 quiet-unsent p h = tells-quiet (λ k. Unit {0}) (unsent p h).told
-    (over-unsent p h (fit_law (λ k. Unit {0}) (at_unsent p) (λ i c l g why found. tt)
+    (over-unsent p h (fit_law (λ k. Unit {0}) (at_unsent p h) (λ i c l g why found. tt)
     (λ i l g why j. tt)))

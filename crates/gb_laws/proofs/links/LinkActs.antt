@@ -2,52 +2,42 @@
 use Rattle.std.proofs.Common.{Bool, List, None, Option, Some, ap, cond, false, inl, inr, map, refl}
 use Rattle.std.proofs.Common.{subst, sym, true, ℕ, ⊎_elim, [], ◌∙◌, ◌∷◌, ◌≡◌, ◌⊎◌}
 use Rattle.std.specs.Prelude.{Err, Ok, Result, ◌==◌}
-use Rattle.gb_base.specs.declared.end.End.TheVariants as end
 use Rattle.gb_base.specs.declared.entry.Entry.{Entry}
 use Rattle.gb_base.specs.declared.interface.{Interface.Interface, Link.Link}
 use Rattle.gb_base.specs.declared.steps.{Purpose.Purpose, SequenceStep.SequenceStep}
-use Rattle.gb_base.specs.declared.steps.SequenceStep.TheVariants as steps
 use Rattle.gb_formats.specs.{GpioRecords.GpioAsk, GpioRecords.read_gpio_ask_of_module}
 use Rattle.gb_formats.specs.{Images.Images, Images.images_step}
 use Rattle.gb_formats.specs.{Records.PayloadFault, SvcRecords.SvcAsk}
 use Rattle.gb_formats.specs.{SvcRecords.read_svc_ask_of_svc, UartDevice.credits_added}
 use Rattle.gb_formats.specs.{UartRecords.UartAsk, UartRecords.read_uart_ask_of_module}
-use Rattle.gb_machine.specs.Failures.{interface_fails, step_fails, unsent, unsent_fails}
-use Rattle.gb_machine.specs.Host.{Host, is_intf, is_link, link_at, link_of, with_interface}
+use Rattle.gb_machine.specs.Failures.{unsent}
+use Rattle.gb_machine.specs.Host.{Host, is_intf, link_at, link_of, with_interface}
 use Rattle.gb_machine.specs.Host.{with_link}
 use Rattle.gb_machine.specs.HostServing.{HostServed, credited, host_serves, interrupted}
 use Rattle.gb_machine.specs.HostServing.{notified_by, served_on, uart_notified_by, with_credits}
-use Rattle.gb_machine.specs.Turns.{Act, Asking, Failing, Making, failed_turn}
+use Rattle.gb_machine.specs.Turns.{Act, Asking, Making, failed_turn}
 use Rattle.gb_machine.specs.{Bus.Bus, Bus.Connection, HostActs.made_for, HostActs.with_awaited}
 use Rattle.gb_machine.specs.{Members.IsIn, SequenceSteps.is_enumeration}
 use Rattle.gb_machine.specs.{SequenceSteps.is_for_connection, State.State, Waits.awaits}
-use Rattle.gb_invariants.proofs.{Awaiting.same-some, Lists.found-in, Lists.in-at_first}
+use Rattle.gb_invariants.proofs.HostChanges.{interface_awaits, link_awaits, waiting-by}
+use Rattle.gb_invariants.proofs.{Awaiting.not-both, Awaiting.same-some, HostChanges.is_creating}
+use Rattle.gb_invariants.proofs.{Lists.in-at_first}
 use Rattle.gb_invariants.proofs.{Outcomes.same-number}
-use Rattle.gb_laws.proofs.links.LinkFails.{fits-failed, fits-interface_fails, fits-through}
-use Rattle.gb_laws.proofs.links.LinkHosts.{Onto, Stay, awaits-link, credits-link, host-interface}
-use Rattle.gb_laws.proofs.links.LinkHosts.{host-images, host-link, onto-interface, onto-link}
-use Rattle.gb_laws.proofs.links.LinkHosts.{onto-same, stay-changed, stay-same}
+use Rattle.gb_laws.proofs.links.LinkHosts.{Stay, awaits-link, credits-link, host-images}
+use Rattle.gb_laws.proofs.links.LinkHosts.{host-interface, host-link, stay-changed, stay-same}
+use Rattle.gb_laws.proofs.links.LinkTurns.{unsent-fits}
+use Rattle.gb_laws.proofs.links.LinkFits.{TurnFits}
+use Rattle.gb_laws.proofs.links.Links.{ArePending}
 use Rattle.gb_laws.proofs.links.Links.{HasNoControl, HostFits, IsAtStep, IsDue, IsDueBy, IsFollowed}
-use Rattle.gb_laws.proofs.links.Links.{IsKnown, IsMaking, SameLink, TurnFits, connection, control}
+use Rattle.gb_laws.proofs.links.Links.{IsKnown, IsMaking, SameLink, connection, control}
 use Rattle.gb_laws.proofs.links.Links.{is_early, leaves, leaving, linked, stays, supervisory}
 use Rattle.gb_laws.proofs.points.LoaderFacts.{same-plugs}
 use Rattle.gb_laws.proofs.points.Points.{IsAsking, SamePlugs, asking, opening}
 use Rattle.gb_laws.proofs.{points.Awaited.awaited-rest, links.LinkFrom.Linked}
-use Rattle.gb_laws.proofs.{links.LinkLists.link-is}
+use Rattle.gb_laws.proofs.links.LinkFrom.{followed-known}
+use Rattle.gb_laws.proofs.{links.LinkLists.found-its}
 
 -- ---- the application processor changes, and its connections stay
-
-known-stay : (c : Connection) (ls after : List Link) (acts : List Act) → Stay ls after
-    → IsKnown c ls acts → IsKnown c after acts
-known-stay c ls after acts stay (supervisory e) = supervisory e
-known-stay c ls after acts stay (leaving i) = leaving i
-known-stay c ls after acts stay (linked l i of) = let s = stay l i in linked s.0 s.1 (record {
-  number = of.number ∙ sym s.2.connection;
-  ap = of.ap ∙ sym s.2.ap;
-  peer = of.peer ∙ sym (ap (λ i. end.Module i s.0.cport) s.2.intf
-      ∙ ap (end.Module l.intf) s.2.cport);
-  protocol = of.protocol ∙ sym s.2.protocol;
-})
 
 -- at rest
 pub linked-stay : {b : Bus} {h g : Host} → HostFits b g → Stay h.links g.links → Linked b h []
@@ -55,7 +45,8 @@ pub linked-stay : {b : Bus} {h g : Host} → HostFits b g → Stay h.links g.lin
 linked-stay {h} {g} fits stay f = record {
   host = fits;
   pending = tt;
-  known = λ c live. known-stay c h.links g.links [] stay (f.known c live);
+  known = λ c live. followed-known c h.links []
+      (λ l i. let s = stay l i in stays s.0 s.1 s.2) (f.known c live);
   svc = f.svc;
   made = f.made;
 }
@@ -81,40 +72,34 @@ linked-last b h x rest none other f = record {
 
 -- a step's request was made
 pub awaits-fits : {b : Bus} (p : Purpose) (n : ℕ) {h : Host} → HostFits b h → IsDue p.step p h
-    → HostFits b (awaits p n h) × Onto h (awaits p n h)
-awaits-fits {b} p n {h} fits due = by (is_enumeration p.step) refl due
-  where
-    wait : ℕ × SequenceStep
-    wait = (n, p.step)
-
-    by : (t : Bool) → is_enumeration p.step ≡ t → IsDueBy t p.step p h
-        → HostFits b (cond t (with_interface p.intf (λ x. record x { awaits = Some (n, p.step) }) h)
-        (with_link p.intf p.cport (λ l. record l { awaits = Some (n, p.step) }) h))
-        × Onto h (cond t (with_interface p.intf (λ x. record x { awaits = Some (n, p.step) }) h)
-        (with_link p.intf p.cport (λ l. record l { awaits = Some (n, p.step) }) h))
-    by true e next = (
-      host-interface p.intf (λ x. record x { awaits = Some (n, p.step) }) (λ x. refl)
+    → HostFits b (awaits p n h) × Stay h.links (awaits p n h).links
+awaits-fits {b} p n {h} fits due =
+    waiting-by (λ g. HostFits b g × Stay h.links g.links) (Some wait) p h
+    (λ e. let next = subst (λ t. IsDueBy t p.step p h) e due in (
+      host-interface p.intf (interface_awaits (Some wait)) (λ x. refl)
           (λ x i at old w f. (
             ap (λ (y : ℕ × SequenceStep). is_enumeration y.1) (sym (same-some wait w f)) ∙ e,
             λ early. subst (λ k. HasNoControl k h.links) (sym (same-number x.intf p.intf at))
                 (next.none (ap (λ (y : ℕ × SequenceStep). is_early y.1) (same-some wait w f)
                 ∙ early)),
           )) fits,
-      onto-interface p.intf (λ x. record x { awaits = Some (n, p.step) }) (λ x. refl),
-    )
-    by false e idle = (
-      host-link p.intf p.cport (λ l. record l { awaits = Some (n, p.step) })
-          (awaits-link (Some (n, p.step)))
-          (λ l i found old w f. (
-            λ z. idle.cport (sym (link-is p.intf p.cport l
-                (found-in (is_link p.intf p.cport) h.links l found).1).1 ∙ z),
-            subst (λ (y : ℕ × SequenceStep). IsAtStep y.1 l.state) (same-some wait w f)
-                (idle.state l found),
-          )) (λ l i found d. record { cport = d.cport; takes = d.takes })
-          (λ l i found d. d) fits,
-      onto-link p.intf p.cport (λ l. record l { awaits = Some (n, p.step) })
-          (awaits-link (Some (n, p.step))),
-    )
+      stay-same h.links,
+    )) (λ e. let idle = subst (λ t. IsDueBy t p.step p h) e due in (
+      host-link p.intf p.cport (link_awaits (Some wait)) (awaits-link (Some wait))
+          (λ l found. record {
+            waiting = λ old w f. (
+              λ z. idle.cport (sym (found-its p.intf p.cport h.links l found).2 ∙ z),
+              subst (λ (y : ℕ × SequenceStep). IsAtStep y.1 l.state) (same-some wait w f)
+                  (idle.state l found),
+            );
+            deaf = λ d. record { cport = d.cport; takes = d.takes };
+            draining = λ d. d;
+          }) fits,
+      stay-changed h.links p.intf p.cport (link_awaits (Some wait)) (awaits-link (Some wait)),
+    ))
+  where
+    wait : ℕ × SequenceStep
+    wait = (n, p.step)
 
 pub awaited-host : (p : Purpose) (n : ℕ) (s : State) → (with_awaited p n s).host ≡ awaits p n s.host
 awaited-host p n s = by (is_for_connection p.step) (link_at p.intf p.cport (awaits p n s.host))
@@ -158,7 +143,7 @@ pub linked-asked : (q : Asking) (n : ℕ) (rest : List Act) (s : State)
     → Linked (with_awaited q.purpose n s).bus (with_awaited q.purpose n s).host rest
 linked-asked q n rest s f =
     let w = awaits-fits q.purpose n f.host f.pending.0.0 in
-    let done = linked-stay w.0 w.1.stay
+    let done = linked-stay w.0 w.1
     (linked-last s.bus s.host (Act.Ask q) rest f.pending.0.1 (λ k e. absurd cc) f) in
     subst (λ r. Linked (with_awaited q.purpose n s).bus (with_awaited q.purpose n s).host r)
     (sym f.pending.0.1) (subst (λ b. Linked b (with_awaited q.purpose n s).host [])
@@ -172,51 +157,46 @@ none-leaves k [] i = i
 none-leaves k (e ∷ es) (inl f) = absurd cc
 none-leaves k (e ∷ es) (inr i) = none-leaves k es i
 
+-- a step with which a connection is made asks for a new one
+making-creates : (w : Making) (step : SequenceStep) → IsMaking w step → is_creating step ≡ true
+making-creates w _ (control zero_cport) = refl
+making-creates w _ (connection other) = refl
+
 -- what fails keeps the facts, and connections stay
-abbrev pub FailsWell : Bus → Host → Failing → Type 0
-FailsWell b h f = HostFits b f.host × Onto h f.host
-
-failed-well : {b : Bus} {h : Host} (f : Failing) → TurnFits b h (failed_turn f) → FailsWell b h f
-failed-well f r = (r.host, record { stay = λ l i. by l (r.followed l i); kept = r.kept })
+pub unsent-stays : {b : Bus} (q : Asking) {rest acts : List Act} {h : Host} → IsAsking q acts rest
+    → ArePending h acts → HostFits b h
+    → HostFits b (unsent q.purpose h).host × Stay h.links (unsent q.purpose h).host.links
+unsent-stays {b} q {rest} {acts} {h} why pending fits =
+    let r : TurnFits b h (failed_turn (unsent q.purpose h)) =
+    unsent-fits q.purpose (due why) fits in
+    (r.host, λ l i. by l (r.followed l i))
   where
-    by : (l : Link) → IsFollowed l f.host.links (map Act.Tell f.told) → (k : Link)
-        × IsIn k f.host.links × SameLink l k
+    due : IsAsking q acts rest → is_creating q.purpose.step ≡ false
+        → IsDue q.purpose.step q.purpose h
+    due (asking is) plain = (subst (ArePending h) is pending).0.0
+    due (opening v is) plain = absurd (not-both (is_creating q.purpose.step)
+        (making-creates v q.purpose.step (subst (ArePending h) is pending).0.0.step) plain)
+
+    by : (l : Link) → IsFollowed l (unsent q.purpose h).host.links
+        (map Act.Tell (unsent q.purpose h).told) → (k : Link)
+        × IsIn k (unsent q.purpose h).host.links × SameLink l k
     by l (stays k i s) = (k, i, s)
-    by l (leaves i) = absurd (none-leaves l.connection f.told i)
-
-pub unsent-due : {b : Bus} (step : SequenceStep) (p : Purpose) {h : Host} → HostFits b h
-    → IsDue step p h → FailsWell b h (unsent_fails step p h)
-unsent-due steps.CreateControl p {h} fits due =
-    failed-well (interface_fails p h) (fits-interface_fails p fits)
-unsent-due steps.CreateConnection p {h} fits due = (fits, onto-same h)
-unsent-due {b} steps.GiveDevice p {h} fits due =
-    let without_device = with_interface p.intf (λ x. record x { device = None }) h in
-    failed-well (interface_fails p without_device)
-    (fits-through b h without_device (failed_turn (interface_fails p without_device))
-    (onto-interface p.intf (λ x. record x { device = None }) (λ x. refl)) (fits-interface_fails p
-    (host-interface p.intf (λ x. record x { device = None }) (λ x. refl) (λ x i at e w k. e w k)
-    fits)))
-unsent-due {b} step p {h} fits due =
-    failed-well {b = b} {h = h} (step_fails step p h) (fits-failed {b = b} step p {h = h} fits due)
-
-pub unsent-making : {b : Bus} (w : Making) {step : SequenceStep} (p : Purpose) {h : Host}
-    → HostFits b h → IsMaking w step → FailsWell b h (unsent_fails step p h)
-unsent-making w p {h} fits (control zero_cport) =
-    failed-well (interface_fails p h) (fits-interface_fails p fits)
-unsent-making w p {h} fits (connection other) = (fits, onto-same h)
+    by l (leaves i) = absurd (none-leaves l.connection (unsent q.purpose h).told i)
 
 pub linked-unsent : (q : Asking) {rest acts : List Act} {b : Bus} {h : Host} → IsAsking q acts rest
     → Linked b h acts → Linked b (unsent q.purpose h).host rest
-linked-unsent q {rest} {b} {h} (asking is) all =
-    let f = subst (Linked b h) is all in
-    let w = unsent-due q.purpose.step q.purpose f.host f.pending.0.0 in
-    subst (Linked b (unsent q.purpose h).host) (sym f.pending.0.1) (linked-stay w.0 w.1.stay
-    (linked-last b h (Act.Ask q) rest f.pending.0.1 (λ k e. absurd cc) f))
-linked-unsent q {rest} {b} {h} (opening v is) all =
-    let f = subst (Linked b h) is all in
-    let w = unsent-making v q.purpose f.host f.pending.0.0.step in
-    subst (Linked b (unsent q.purpose h).host) (sym f.pending.0.1) (linked-stay w.0 w.1.stay
-    (linked-last b h (Act.Make v q) rest f.pending.0.1 (λ k e. absurd cc) f))
+linked-unsent q {rest} {acts} {b} {h} why all =
+    let u = unsent-stays q why all.pending all.host in
+    let f = last why in
+    subst (Linked b (unsent q.purpose h).host) (sym f.0) (linked-stay u.0 u.1 f.1)
+  where
+    last : IsAsking q acts rest → (rest ≡ []) × Linked b h []
+    last (asking is) =
+        let f = subst (Linked b h) is all in
+        (f.pending.0.1, linked-last b h (Act.Ask q) rest f.pending.0.1 (λ k e. absurd cc) f)
+    last (opening v is) =
+        let f = subst (Linked b h) is all in
+        (f.pending.0.1, linked-last b h (Act.Make v q) rest f.pending.0.1 (λ k e. absurd cc) f)
 
 -- ---- credits
 
@@ -226,8 +206,11 @@ pub linked-link : (i c : ℕ) (credits : Link → ℕ) {b : Bus} {h : Host} → 
 linked-link i c credits {h} f =
     linked-stay (host-link i c (λ l. record l { credits = credits l })
     (λ l. credits-link (credits l) l)
-    (λ l j found w v e. w v e) (λ l j found d. record { cport = d.cport; takes = d.takes })
-    (λ l j found d. d) f.host)
+    (λ l found. record {
+      waiting = λ w v e. w v e;
+      deaf = λ d. record { cport = d.cport; takes = d.takes };
+      draining = λ d. d;
+    }) f.host)
     (stay-changed h.links i c (λ l. record l { credits = credits l })
     (λ l. credits-link (credits l) l)) f
 
@@ -250,13 +233,14 @@ host-if : (h : Host) (t : Bool) {x y : HostServed} → ServedHost h x → Served
 host-if h true p q = p
 host-if h false p q = q
 
-host-svc : (h : Host) (r : Result SvcAsk PayloadFault) → ServedHost h (notified_by r h)
-host-svc h (Err fault) = as_before refl
-host-svc h (Ok (SvcAsk.ModuleInserted i count flags)) = as_before refl
-host-svc h (Ok (SvcAsk.ModuleRemoved i)) = as_before refl
-host-svc h (Ok (SvcAsk.ProtocolVersion major minor)) = as_before refl
-host-svc h (Ok (SvcAsk.Hello endo intf)) = as_before refl
-host-svc h (Ok _) = as_before refl
+-- it stays as it is where the supervisory controller asks
+pub svc-host : (h : Host) (r : Result SvcAsk PayloadFault) → (notified_by r h).host ≡ h
+svc-host h (Err fault) = refl
+svc-host h (Ok (SvcAsk.ModuleInserted i count flags)) = refl
+svc-host h (Ok (SvcAsk.ModuleRemoved i)) = refl
+svc-host h (Ok (SvcAsk.ProtocolVersion major minor)) = refl
+svc-host h (Ok (SvcAsk.Hello endo intf)) = refl
+svc-host h (Ok _) = refl
 
 host-gpio : (h : Host) (l : Link) (r : Result GpioAsk PayloadFault)
     → ServedHost h (interrupted l r h)
@@ -278,7 +262,7 @@ pub host-served : (k kind : ℕ) (payload : List ℕ) {h : Host}
 host-served k kind payload {h} = by (link_of k h)
   where
     by : (o : Option Link) → ServedHost h (served_on o kind payload h)
-    by None = host-svc h (read_svc_ask_of_svc kind payload)
+    by None = as_before (svc-host h (read_svc_ask_of_svc kind payload))
     by (Some l) =
         host-if h (l.protocol == 0x02) (host-gpio h l (read_gpio_ask_of_module kind payload))
         (host-if h (l.protocol == 0x04)

@@ -1,5 +1,5 @@
 -- The facts of the application processor's connections where one of them changes, or an interface.
-use Rattle.std.proofs.Common.{Bool, List, Option, Some, ap, arith, false, refl, subst, sym, true, ℕ}
+use Rattle.std.proofs.Common.{Bool, List, Option, Some, ap, arith, refl, subst, sym, true, ℕ}
 use Rattle.std.proofs.Common.{⊎_elim, ◌∙◌, ◌≡◌}
 use Rattle.std.specs.List.{find}
 use Rattle.std.specs.Prelude.{Option, not, ◌&&◌, ◌==◌}
@@ -9,13 +9,12 @@ use Rattle.gb_base.specs.declared.steps.{Purpose.Purpose, SequenceStep.SequenceS
 use Rattle.gb_formats.specs.Images.{Images}
 use Rattle.gb_machine.specs.Host.{Host, in_state, is_intf, is_link, with_interface, with_link}
 use Rattle.gb_machine.specs.{Bus.Bus, Lists.at_first, Lists.without, Members.IsIn}
-use Rattle.gb_machine.specs.{SequenceSteps.at_step}
-use Rattle.gb_invariants.proofs.Lists.{at_first-back, filter-in, found-in, in-without, two-at_first}
+use Rattle.gb_invariants.proofs.Lists.{at_first-back, found-in, in-without, two-at_first}
 use Rattle.gb_invariants.proofs.Lists.{two-filter}
 use Rattle.gb_invariants.proofs.Found.{in-first}
 use Rattle.gb_laws.proofs.links.Links.{AreOther, DrainsPlain, HasNoControl, HostFits, IsDeaf}
 use Rattle.gb_laws.proofs.links.Links.{IsEnumerating, IsLinkBefore, IsNext, IsNumbered, IsPresent}
-use Rattle.gb_laws.proofs.links.Links.{IsResting, IsWaiting, LinksFit, SameLink, is_early}
+use Rattle.gb_laws.proofs.links.Links.{IsResting, IsWaiting, LinksFit, SameLink}
 
 pub same-link : (l : Link) → SameLink l l
 same-link l = record { connection = refl; ap = refl; intf = refl; cport = refl; protocol = refl }
@@ -68,14 +67,21 @@ before-right l k x same h = record {
   apart = same-at l.intf l.cport k x same ∙ h.apart;
 }
 
+-- What a change keeps of a connection.
+pub record KeepsLink (f : Link → Link) (l : Link) : Type 0 where
+  pub waiting : IsWaiting l → IsWaiting (f l)
+  pub deaf : IsDeaf l → IsDeaf (f l)
+  pub draining : DrainsPlain l → DrainsPlain (f l)
+
+-- it keeps that of the connection of a CPort
+abbrev pub KeepsAt : ℕ → ℕ → (Link → Link) → List Link → Type 0
+KeepsAt i c f ls = (l : Link) → find (is_link i c) ls ≡ Some l → KeepsLink f l
+
 -- the connection of a CPort changes, and is what it was in what never changes
 links-changed : (b : Bus) (ls : List Link) (i c : ℕ) (f : Link → Link)
-    → ((l : Link) → SameLink l (f l))
-    → ((l : Link) → IsIn l ls → find (is_link i c) ls ≡ Some l → IsWaiting l → IsWaiting (f l))
-    → ((l : Link) → IsIn l ls → find (is_link i c) ls ≡ Some l → IsDeaf l → IsDeaf (f l))
-    → ((l : Link) → IsIn l ls → find (is_link i c) ls ≡ Some l → DrainsPlain l
-    → DrainsPlain (f l)) → LinksFit b ls → LinksFit b (at_first (is_link i c) f ls)
-links-changed b ls i c f same waiting deaf draining h = record {
+    → ((l : Link) → SameLink l (f l)) → KeepsAt i c f ls → LinksFit b ls
+    → LinksFit b (at_first (is_link i c) f ls)
+links-changed b ls i c f same keeps h = record {
   rise = two-at_first IsLinkBefore (is_link i c) f ls (λ l k r. before-left l k (f l) (same l) r)
       (λ l k r. before-right l k (f k) (same k) r) h.rise;
   numbered = λ l j. ⊎_elim (λ o. h.numbered l o)
@@ -88,14 +94,14 @@ links-changed b ls i c f same waiting deaf draining h = record {
         cport = omega (arith, n.cport, s.cport);
       })) (in-first (is_link i c) f ls l j);
   waiting = λ l j. ⊎_elim (λ o. h.waiting l o)
-      (λ w. subst IsWaiting (sym w.3) (waiting w.0 w.1 w.2 (h.waiting w.0 w.1)))
+      (λ w. subst IsWaiting (sym w.3) ((keeps w.0 w.2).waiting (h.waiting w.0 w.1)))
       (in-first (is_link i c) f ls l j);
   deaf = λ l x j live on shut. ⊎_elim (λ o. h.deaf l x o live on shut)
-      (λ w. subst IsDeaf (sym w.3) (deaf w.0 w.1 w.2
+      (λ w. subst IsDeaf (sym w.3) ((keeps w.0 w.2).deaf
       (h.deaf w.0 x w.1 live (on ∙ ap (λ (y : Link). y.connection) w.3 ∙ (same w.0).connection)
       shut))) (in-first (is_link i c) f ls l j);
   draining = λ l j. ⊎_elim (λ o. h.draining l o)
-      (λ w. subst DrainsPlain (sym w.3) (draining w.0 w.1 w.2 (h.draining w.0 w.1)))
+      (λ w. subst DrainsPlain (sym w.3) ((keeps w.0 w.2).draining (h.draining w.0 w.1)))
       (in-first (is_link i c) f ls l j);
 }
 
@@ -111,6 +117,28 @@ pub stay-changed : (ls : List Link) (i c : ℕ) (f : Link → Link) → ((l : Li
 stay-changed ls i c f same l j =
     ⊎_elim (λ o. (l, o, same-link l)) (λ w. (f l, w, same l)) (at_first-back (is_link i c) f ls l j)
 
+-- each connection comes from one of these, and takes nothing where that doesn't
+abbrev pub ComeFrom : List Link → List Link → Type 0
+ComeFrom ls after = (l : Link) → IsIn l after
+    → (k : Link) × IsIn k ls × SameLink k l × (IsDeaf k → IsDeaf l)
+
+pub come-same : (ls : List Link) → ComeFrom ls ls
+come-same ls l i = (l, i, same-link l, λ d. d)
+
+pub come-then : (ls ks js : List Link) → ComeFrom ls ks → ComeFrom ks js → ComeFrom ls js
+come-then ls ks js a b l i =
+    let k = b l i in
+    let j = a k.0 k.1 in (j.0, j.1, then-same l j.2 k.2, λ d. k.3 (j.3 d))
+
+pub come-changed : (ls : List Link) (i c : ℕ) (f : Link → Link) → ((l : Link) → SameLink l (f l))
+    → KeepsAt i c f ls → ComeFrom ls (at_first (is_link i c) f ls)
+come-changed ls i c f same keeps l j = ⊎_elim (λ o. (l, o, same-link l, λ d. d)) (λ w. (
+  w.0,
+  w.1,
+  subst (SameLink w.0) (sym w.3) (same w.0),
+  λ d. subst IsDeaf (sym w.3) ((keeps w.0 w.2).deaf d),
+)) (in-first (is_link i c) f ls l j)
+
 none-changed : (j : ℕ) (ls : List Link) (i c : ℕ) (f : Link → Link)
     → ((l : Link) → SameLink l (f l)) → HasNoControl j ls
     → HasNoControl j (at_first (is_link i c) f ls)
@@ -119,13 +147,9 @@ none-changed j ls i c f same none l k =
     ∙ none w.0 w.1) (in-first (is_link i c) f ls l k)
 
 pub host-link : {b : Bus} {h : Host} (i c : ℕ) (f : Link → Link) → ((l : Link) → SameLink l (f l))
-    → ((l : Link) → IsIn l h.links → find (is_link i c) h.links ≡ Some l → IsWaiting l
-    → IsWaiting (f l))
-    → ((l : Link) → IsIn l h.links → find (is_link i c) h.links ≡ Some l → IsDeaf l → IsDeaf (f l))
-    → ((l : Link) → IsIn l h.links → find (is_link i c) h.links ≡ Some l → DrainsPlain l
-    → DrainsPlain (f l)) → HostFits b h → HostFits b (with_link i c f h)
-host-link {b} {h} i c f same waiting deaf draining fits = record {
-  links = links-changed b h.links i c f same waiting deaf draining fits.links;
+    → KeepsAt i c f h.links → HostFits b h → HostFits b (with_link i c f h)
+host-link {b} {h} i c f same keeps fits = record {
+  links = links-changed b h.links i c f same keeps fits.links;
   interfaces = λ x j w e. let old = fits.interfaces x j w e in
       (old.0, λ early. none-changed x.intf h.links i c f same (old.1 early));
   differ = fits.differ;
@@ -179,55 +203,7 @@ host-interface i f {h} same enumerating fits = record {
   present = λ l j. present-changed i f same (fits.present l j);
 }
 
--- ---- what stays of a host
-
--- its connections stay, and each interface was known
-pub record Onto (h g : Host) : Type 0 where
-  pub stay : Stay h.links g.links
-  pub kept : (x : Interface) → IsIn x g.interfaces → IsPresent x.intf h.interfaces
-
-pub kept-same : (xs : List Interface) (x : Interface) → IsIn x xs → IsPresent x.intf xs
-kept-same xs x i = record { interface = x; known = i; is = refl }
-
-pub onto-same : (h : Host) → Onto h h
-onto-same h = record { stay = stay-same h.links; kept = kept-same h.interfaces }
-
-pub onto-link : {h : Host} (i c : ℕ) (f : Link → Link) → ((l : Link) → SameLink l (f l))
-    → Onto h (with_link i c f h)
-onto-link {h} i c f same = record {
-  stay = stay-changed h.links i c f same;
-  kept = kept-same h.interfaces;
-}
-
-pub onto-interface : {h : Host} (i : ℕ) (f : Interface → Interface)
-    → ((x : Interface) → (f x).intf ≡ x.intf) → Onto h (with_interface i f h)
-onto-interface {h} i f same = record {
-  stay = stay-same h.links;
-  kept = λ x j. ⊎_elim (λ o. kept-same h.interfaces x o) (λ w. record {
-    interface = w.0;
-    known = w.1;
-    is = sym (ap (λ (y : Interface). y.intf) w.3 ∙ same w.0);
-  }) (in-first (is_intf i) f h.interfaces x j);
-}
-
-pub onto-then : (h : Host) {g : Host} (k : Host) → Onto h g → Onto g k → Onto h k
-onto-then h k a b = record {
-  stay = λ l i. let s =
-      a.stay l i in let t = b.stay s.0 s.1 in (t.0, t.1, then-same t.0 s.2 t.2);
-  kept = λ x i. let p = b.kept x i in let q = a.kept p.interface p.known in
-      record { interface = q.interface; known = q.known; is = q.is ∙ p.is };
-}
-
 -- ---- steps of an enumeration that are due
-
-pub next-to : {step to : SequenceStep} {p : Purpose} {h : Host}
-    → (is_early to ≡ true → is_early step ≡ true) → IsNext step p h → IsNext to (at_step to p) h
-next-to early n = record {
-  cport = n.cport;
-  none = λ e. n.none (early e);
-  idle = n.idle;
-  present = n.present;
-}
 
 pub next-interface : {step : SequenceStep} {p : Purpose} (h : Host) (j : ℕ)
     (f : Interface → Interface) → ((x : Interface) → (f x).intf ≡ x.intf)
@@ -242,7 +218,7 @@ next-interface {p} h j f same waits n = record {
 
 -- ---- connections without some
 
-pub links-without : (b : Bus) (test : Link → Bool) {ls : List Link} → LinksFit b ls
+links-without : (b : Bus) (test : Link → Bool) {ls : List Link} → LinksFit b ls
     → LinksFit b (without test ls)
 links-without b test {ls} h = record {
   rise = two-filter IsLinkBefore (λ l. not (test l)) ls h.rise;
@@ -252,10 +228,19 @@ links-without b test {ls} h = record {
   draining = λ l i. h.draining l (in-without test ls l i).0;
 }
 
-pub none-without : (i : ℕ) (test : Link → Bool) (ls : List Link) → HasNoControl i ls
+none-without : (i : ℕ) (test : Link → Bool) (ls : List Link) → HasNoControl i ls
     → HasNoControl i (without test ls)
 none-without i test ls none l j = none l (in-without test ls l j).0
 
-pub without-in : (test : Link → Bool) (ls : List Link) (l : Link) → IsIn l ls → test l ≡ false
-    → IsIn l (without test ls)
-without-in test ls l i e = filter-in (λ k. not (test k)) ls l i (ap not e)
+pub come-without : (test : Link → Bool) (ls : List Link) → ComeFrom ls (without test ls)
+come-without test ls l j = (l, (in-without test ls l j).0, same-link l, λ d. d)
+
+pub host-without : {b : Bus} {h : Host} (test : Link → Bool) → HostFits b h
+    → HostFits b (record h { links = without test h.links })
+host-without {b} {h} test fits = record {
+  links = links-without b test fits.links;
+  interfaces = λ x i w e. let old = fits.interfaces x i w e in
+      (old.0, λ early. none-without x.intf test h.links (old.1 early));
+  differ = fits.differ;
+  present = λ l i. fits.present l (in-without test h.links l i).0;
+}

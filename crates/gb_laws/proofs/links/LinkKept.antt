@@ -1,5 +1,5 @@
 -- The facts of the application processor's connections are kept by each single change.
-use Rattle.std.proofs.Common.{List, None, ap, refl, subst, sym, ℕ, [], ◌∙◌, ◌∷◌, ◌≡◌, ◌≢◌}
+use Rattle.std.proofs.Common.{None, refl, subst, sym, ℕ, [], ◌∷◌, ◌≡◌, ◌≢◌}
 use Rattle.std.specs.Prelude.{◌-◌}
 use Rattle.gb_base.specs.declared.host_event.HostEvent.TheVariants as host_event
 use Rattle.gb_base.specs.declared.host_event.HostEvent.{HostEvent}
@@ -8,13 +8,11 @@ use Rattle.gb_base.specs.declared.end.Side.{Side}
 use Rattle.gb_base.specs.declared.end.End.TheVariants as end
 use Rattle.gb_base.specs.declared.end.Side.TheVariants as side
 use Rattle.gb_base.specs.declared.event.Event.TheVariants as event
-use Rattle.gb_base.specs.declared.interface.Link.{Link}
 use Rattle.gb_formats.specs.Bridges.{credits_taken}
 use Rattle.gb_machine.proofs.Conditions.{AreUnmet, free, front-unmet}
-use Rattle.gb_machine.specs.Bus.{Bus, Connection, end_of}
+use Rattle.gb_machine.specs.Bus.{Bus, end_of}
 use Rattle.gb_machine.specs.Host.{Host, control_of, interface_of, with_given, with_link}
-use Rattle.gb_machine.specs.Host.{with_new_interface}
-use Rattle.gb_machine.specs.Turns.{Act, Turn}
+use Rattle.gb_machine.specs.Turns.{Act}
 use Rattle.gb_machine.specs.{HostRefusals.connect_conditions, HostRefusals.disconnect_conditions}
 use Rattle.gb_machine.specs.{HostServing.host_serves}
 use Rattle.gb_machine.specs.{LineActions.spent, Lists.holds_of, Members.IsIn, Refusals.has_no_label}
@@ -27,101 +25,66 @@ use Rattle.gb_invariants.proofs.HostChanges.{at_event, at_insertion}
 use Rattle.gb_laws.proofs.links.LinkActs.{linked-asked, linked-images, linked-link, linked-served}
 use Rattle.gb_laws.proofs.links.LinkActs.{linked-unsent}
 use Rattle.gb_laws.proofs.links.LinkBuses.{linked-left, linked-opened, linked-rest, linked-shut}
-use Rattle.gb_laws.proofs.links.LinkTurns.{fits-connects, fits-inserted, fits-removed}
-use Rattle.gb_laws.proofs.links.Links.{HostFits, IsFollowed, IsKnown, TurnFits, leaves, leaving}
-use Rattle.gb_laws.proofs.links.Links.{linked}
-use Rattle.gb_laws.proofs.links.Links.{stays, supervisory}
+use Rattle.gb_laws.proofs.links.LinkDue.{IsAllowed}
+use Rattle.gb_laws.proofs.links.LinkTurns.{turn-fits}
 use Rattle.gb_laws.proofs.points.PointParts.{IsCaused, IsNoticed, Point}
 use Rattle.gb_laws.proofs.points.Points.{Change, acts_asked, acts_failed, acts_left, acts_made}
 use Rattle.gb_laws.proofs.points.Points.{acts_shut, acts_told, changed, gives, injects, serves}
 use Rattle.gb_laws.proofs.points.Points.{spends}
 use Rattle.gb_laws.proofs.points.Points.{turns}
 use Rattle.gb_laws.proofs.{points.ChangeBuses.bus_change, links.LinkChanges.linked-after}
-use Rattle.gb_laws.proofs.{links.LinkClosing.fits-disconnects, links.LinkEnds.fits-ended}
-use Rattle.gb_laws.proofs.{links.LinkFrom.Linked}
+use Rattle.gb_laws.proofs.{links.LinkFrom.Linked, links.LinkFrom.followed-known}
 use Rattle.gb_laws.proofs.{points.Places.module-far, points.Places.place-is}
-use Rattle.gb_laws.proofs.links.LinkClosing.{fits-drains, fits-idle}
 
 -- an interface of a module whose insertion is handled at a moment is absent
 abbrev pub InsertsAbsent : Moment → Type 0
 InsertsAbsent m = (p count i : ℕ) → IsNoticed m (host_event.Inserted p count)
     → IsIn i (span p count) → interface_of i m.before.host ≡ None
 
--- the application processor with the interface that is inserted
-abbrev pub noticed_host : Notice → Host → Host
-noticed_host (at_insertion p i) h = with_new_interface p i h
-noticed_host e h = h
-
-pub same-links : (e : Notice) (h : Host) → (noticed_host e h).links ≡ h.links
-same-links (at_insertion p i) h = refl
-same-links e h = refl
-
--- what the application processor does at an event
-pub event-fits : (m : Moment) (b : Bus) (x : HostEvent) (h : Host) → IsCaused m (at_event x) h
-    → HostFits b h → TurnFits b h (turn_of (at_event x) h)
-event-fits m b (host_event.Inserted p count) h cause fits = absurd cause
-event-fits m b (host_event.Removed p) h cause fits = absurd cause
-event-fits m b (host_event.Connect i c) h cause fits =
-    fits-connects b i c h fits (subst (λ g. AreUnmet (connect_conditions i c g)) (sym cause.0)
-    (front-unmet (connect_conditions i c m.before.host)
-    ((has_no_label 1 side.Ap m.before, why.NoLabel) ∷ [])
-    (free m.before (event.Connect i c) cause.2))) cause.3
-event-fits m b (host_event.Disconnect i c) h cause fits =
-    fits-disconnects b i c h fits (subst (λ g. AreUnmet (disconnect_conditions i c g)) (sym cause.0)
+-- an event of which it takes notice may be
+pub event-allowed : (m : Moment) (x : HostEvent) (h : Host) → IsCaused m (at_event x) h
+    → IsAllowed (at_event x) h
+event-allowed m (host_event.Connect i c) h cause = (
+  subst (λ g. AreUnmet (connect_conditions i c g)) (sym cause.0)
+      (front-unmet (connect_conditions i c m.before.host)
+      ((has_no_label 1 side.Ap m.before, why.NoLabel) ∷ [])
+      (free m.before (event.Connect i c) cause.2)),
+  cause.3,
+)
+event-allowed m (host_event.Disconnect i c) h cause =
+    subst (λ g. AreUnmet (disconnect_conditions i c g)) (sym cause.0)
     (front-unmet (disconnect_conditions i c m.before.host)
     ((
       holds_of (λ k. has_no_label k side.Ap m.before) (control_of i m.before.host),
       why.NoLabel,
     ) ∷ [])
-    (free m.before (event.Disconnect i c) cause.2)))
-event-fits m b (host_event.Drain i c) h cause fits =
-    fits-drains b i c h fits (subst (λ g. AreUnmet (drain_conditions i c g)) (sym cause.0)
-    (free m.before (event.Drain i c) cause.2))
-event-fits m b (host_event.Idle k) h cause fits = fits-idle b k h fits
-event-fits m b (host_event.Ended n how) h cause fits = fits-ended b n how h fits
+    (free m.before (event.Disconnect i c) cause.2))
+event-allowed m (host_event.Drain i c) h cause =
+    subst (λ g. AreUnmet (drain_conditions i c g)) (sym cause.0)
+    (free m.before (event.Drain i c) cause.2)
+event-allowed m x h cause = tt
 
--- what it does at what it takes notice of
-pub turn-fits : (m : Moment) (b : Bus) (e : Notice) (h : Host) → InsertsAbsent m → IsCaused m e h
-    → HostFits b h → TurnFits b (noticed_host e h) (turn_of e h)
-turn-fits m b (at_insertion p i) h absent cause fits =
-    fits-inserted b p i h fits
-    (cause.absent (absent p cause.count i cause.noticed cause.within))
-turn-fits m b (at_removal i) h absent cause fits = fits-removed b i h fits
-turn-fits m b (at_event x) h absent cause fits = event-fits m b x h cause fits
+-- and so may all that it takes notice of
+pub allowed : (m : Moment) → InsertsAbsent m → (x : Notice) (h : Host) → IsCaused m x h
+    → IsAllowed x h
+allowed m absent (at_insertion p i) h cause =
+    cause.absent (absent p cause.count i cause.noticed cause.within)
+allowed m absent (at_removal i) h cause = tt
+allowed m absent (at_event x) h cause = event-allowed m x h cause
 
--- what is known of live connections behind a turn
-followed-known : (c : Connection) (ls : List Link) {after : List Link} (acts : List Act)
-    → ((l : Link) → IsIn l ls → IsFollowed l after acts) → IsKnown c ls [] → IsKnown c after acts
-followed-known c ls acts f (supervisory e) = supervisory e
-followed-known c ls acts f (leaving i) = absurd i
-followed-known c ls {after} acts f (linked l i of) = by (f l i)
-  where
-    by : IsFollowed l after acts → IsKnown c after acts
-    by (stays k j same) = linked k j (record {
-      number = of.number ∙ sym same.connection;
-      ap = of.ap ∙ sym same.ap;
-      peer = of.peer ∙ ap (λ i. end.Module i l.cport) (sym same.intf)
-          ∙ ap (end.Module k.intf) (sym same.cport);
-      protocol = of.protocol ∙ sym same.protocol;
-    })
-    by (leaves j) = leaving (subst (λ n. IsIn (Act.Leave n) acts) (sym of.number) j)
+-- The facts go with the acts of a turn.
+abbrev pub TurnsTo : Bus → Host → Notice → Type 0
+TurnsTo b h x = Linked b (turn_of x h).host (turn_of x h).acts
 
--- The facts of connections behind a turn, before its acts are done.
-pub linked-fits : {b : Bus} {h g : Host} {t : Turn} → g.links ≡ h.links → TurnFits b g t
-    → Linked b h [] → Linked b t.host t.acts
-linked-fits {h} {t} same fits f = record {
+-- They hold behind each turn, before its acts are done.
+pub turned : {b : Bus} {h : Host} (x : Notice) → IsAllowed x h → Linked b h [] → TurnsTo b h x
+turned {b} {h} x may f = let fits = turn-fits x may f.host in record {
   host = fits.host;
   pending = fits.pending;
-  known = λ c live. followed-known c h.links t.acts
-      (λ l i. fits.followed l (subst (λ ls. IsIn l ls) (sym same) i)) (f.known c live);
+  known = λ c live. followed-known c h.links (turn_of x h).acts fits.followed (f.known c live);
   svc = f.svc;
   made = f.made;
 }
-
-linked-turn : (m : Moment) {b : Bus} (e : Notice) {h : Host} → InsertsAbsent m → IsCaused m e h
-    → Linked b h [] → Linked b (turn_of e h).host (turn_of e h).acts
-linked-turn m {b} e {h} absent cause f =
-    linked-fits (same-links e h) (turn-fits m b e h absent cause f.host) f
 
 -- The application processor's connections at a point.
 abbrev pub LinkedAt : Point → Type 0
@@ -143,7 +106,8 @@ linked-kept m absent {a} (injects i c p bytes free named) h =
         svc-at side.Far far is peer = absurd cc
         svc-at side.Ap far is peer = absurd cc
 linked-kept m absent {a} (turns e free untouched none cause) h =
-    linked-turn m e absent cause (subst (Linked a.state.bus a.state.host) none h)
+    turned e (allowed m absent e a.state.host cause)
+    (subst (Linked a.state.bus a.state.host) none h)
 linked-kept m absent {a} (acts_told e rest is quiet) h =
     linked-rest a.state.bus a.state.host (Act.Tell e) rest (λ k f. absurd cc)
     (subst (Linked a.state.bus a.state.host) is h)

@@ -1,17 +1,17 @@
 -- Which connections a turn of the application processor gives up, and why.
-use Rattle.std.proofs.Common.{Bool, List, None, Option, Some, ap, cond, false, inl, inr, refl}
-use Rattle.std.proofs.Common.{subst, sym, true, ℕ, ⊎_elim, [], ◌∙◌, ◌∷◌, ◌≡◌}
-use Rattle.std.specs.{List.find, Prelude.option_map, Prelude.◌==◌}
+use Rattle.std.proofs.Common.{List, None, Some, ap, inl, inr, refl}
+use Rattle.std.proofs.Common.{subst, sym, ℕ, ⊎_elim, [], ◌∙◌, ◌∷◌, ◌≡◌}
+use Rattle.std.specs.{Prelude.option_map, Prelude.◌==◌}
 use Rattle.gb_base.specs.declared.host_event.HostEvent.TheVariants as host_event
 use Rattle.gb_base.specs.declared.interface.Link.{Link}
-use Rattle.gb_base.specs.declared.steps.{Purpose.Purpose, SequenceStep.SequenceStep}
+use Rattle.gb_base.specs.declared.steps.{Purpose.Purpose}
 use Rattle.gb_base.specs.declared.outcome.Outcome.TheVariants as outcome
 use Rattle.gb_base.specs.declared.steps.SequenceStep.TheVariants as steps
 use Rattle.gb_machine.specs.Host.{Host, is_link, link_at}
 use Rattle.gb_machine.specs.HostTurns.{host_inserted, host_removed, host_turn, links_left, links_of}
-use Rattle.gb_machine.specs.Waits.{awaits_nothing, interface_waits, link_waits, purpose_in}
-use Rattle.gb_machine.specs.{Bus.Bus, Bus.or_else, Failures.told_of, Members.IsIn}
-use Rattle.gb_machine.specs.{SequenceSteps.is_enumeration, SequenceSteps.purpose, Turns.Act}
+use Rattle.gb_machine.specs.Waits.{awaits_nothing}
+use Rattle.gb_machine.specs.{Bus.Bus, Failures.told_of, Members.IsIn}
+use Rattle.gb_machine.specs.{SequenceSteps.is_enumeration, Turns.Act}
 use Rattle.gb_invariants.proofs.HostChanges.{Finds, HostChange, HostEnd, IsAnswered, IsFor, acts_by}
 use Rattle.gb_invariants.proofs.HostChanges.{at_notice, end_of}
 use Rattle.gb_invariants.proofs.{Awaiting.not-both, Awaiting.same-some, Found.find-changed}
@@ -20,9 +20,9 @@ use Rattle.gb_invariants.proofs.{OverTurns.over-turn}
 use Rattle.gb_invariants.proofs.HostChanges.{Notice, at_removal, turn_of}
 use Rattle.gb_invariants.proofs.HostChanges.{at_event}
 use Rattle.gb_invariants.proofs.HostChanges.{at_insertion}
-use Rattle.gb_laws.proofs.{links.LinkActs.none-leaves, links.LinkLists.found-at}
+use Rattle.gb_laws.proofs.{links.LinkActs.none-leaves, links.LinkLists.found-there}
 use Rattle.gb_laws.proofs.{links.Links.HostFits}
-use Rattle.gb_laws.proofs.{removals.QuietAwaited.waited-in}
+use Rattle.gb_laws.proofs.links.Waited.{WaitsFor, connecting, enumerating, waits-for}
 
 -- A connection is given up where the removal of its interface is handled, or where the last request
 -- of its close was answered.
@@ -33,42 +33,6 @@ pub data WhyLeft (h : Host) (e : Notice) (k : ℕ) : Type 0 where
       → e ≡ at_event (host_event.Ended n (outcome.Answered result payload)) → IsIn l h.links
       → l.awaits ≡ Some (n, steps.DestroyConnection) → l.connection ≡ k → WhyLeft h e k
 
--- a connection that waits for a request
-pub waited-link : (n : ℕ) (ls : List Link) (p : Purpose) → link_waits n ls ≡ Some p
-    → (l : Link) × IsIn l ls × (l.intf ≡ p.intf) × (l.cport ≡ p.cport)
-    × (l.awaits ≡ Some (n, p.step))
-waited-link n [] p h = absurd cc
-waited-link n (x ∷ xs) p h =
-    by (purpose_in n x.intf x.cport x.awaits) refl h (waited-link n xs p)
-  where
-    Waited : List Link → Type 0
-    Waited ys = (y : Link) × IsIn y ys × (y.intf ≡ p.intf) × (y.cport ≡ p.cport)
-        × (y.awaits ≡ Some (n, p.step))
-
-    one : (o : Option (ℕ × SequenceStep)) → x.awaits ≡ o
-        → purpose_in n x.intf x.cport o ≡ Some p → Waited (x ∷ xs)
-    one None e f = absurd cc
-    one (Some w) e f = test (w.0 == n) refl f
-      where
-        test : (t : Bool) → (w.0 == n) ≡ t
-            → cond t (Some (purpose x.intf x.cport w.1)) None ≡ Some p → Waited (x ∷ xs)
-        test true g f =
-            let is = same-some (purpose x.intf x.cport w.1) p f in (
-              x,
-              inl refl,
-              ap (λ (q : Purpose). q.intf) is,
-              ap (λ (q : Purpose). q.cport) is,
-              e ∙ ap (λ k. Some (k, w.1)) (same-number w.0 n g)
-                  ∙ ap (λ (q : Purpose). Some (n, q.step)) is,
-            )
-        test false g f = absurd cc
-
-    by : (o : Option Purpose) → purpose_in n x.intf x.cport x.awaits ≡ o
-        → or_else o (link_waits n xs) ≡ Some p
-        → (link_waits n xs ≡ Some p → Waited xs) → Waited (x ∷ xs)
-    by None e f rec = let w = rec f in (w.0, inr w.1, w.2, w.3, w.4)
-    by (Some q) e f rec = one x.awaits refl (e ∙ f)
-
 abbrev idle : Link → Link
 idle l = record l { awaits = None }
 
@@ -76,30 +40,19 @@ idle l = record l { awaits = None }
 why-closed : (b : Bus) (h : Host) (e : Notice) (p : Purpose) (l : Link) → HostFits b h
     → IsAnswered e h p → p.step ≡ steps.DestroyConnection
     → link_at p.intf p.cport (awaits_nothing p h) ≡ Some l → WhyLeft h e l.connection
-why-closed b h e p l fits r last found = by (interface_waits r.number h.interfaces) refl r.awaited
+why-closed b h e p l fits r last found = by (waits-for r.number h p r.awaited)
   where
-    waits : (x : Link) × IsIn x h.links × (x.intf ≡ p.intf) × (x.cport ≡ p.cport)
-        × (x.awaits ≡ Some (r.number, p.step)) → WhyLeft h e l.connection
-    waits w =
-        let known : link_at p.intf p.cport h ≡ Some w.0 =
-        subst (λ x. find (is_link x p.cport) h.links ≡ Some w.0) w.2
-        (subst (λ x. find (is_link w.0.intf x) h.links ≡ Some w.0) w.3
-        (found-at h.links w.0 fits.links.rise w.1)) in
-        let then : link_at p.intf p.cport (awaits_nothing p h) ≡ Some (idle w.0) =
+    by : WaitsFor h r.number p → WhyLeft h e l.connection
+    by (enumerating x i intf cport awaits) = absurd (not-both (is_enumeration p.step)
+        (fits.interfaces x i (r.number, p.step) awaits).0 (ap is_enumeration last))
+    by (connecting k i intf cport awaits) =
+        let then : link_at p.intf p.cport (awaits_nothing p h) ≡ Some (idle k) =
         ap (λ s. link_at p.intf p.cport (awaits_nothing (record p { step = s }) h)) last
         ∙ find-changed (is_link p.intf p.cport) idle h.links (λ x. refl)
-        ∙ ap (option_map idle) known in
-        closed r.number r.result r.payload w.0 r.is w.1
-        (w.4 ∙ ap (λ s. Some (r.number, s)) last)
-        (ap (λ (y : Link). y.connection) (same-some (idle w.0) l (sym then ∙ found)))
-
-    by : (o : Option Purpose) → interface_waits r.number h.interfaces ≡ o
-        → or_else o (link_waits r.number h.links) ≡ Some p → WhyLeft h e l.connection
-    by None f g = waits (waited-link r.number h.links p g)
-    by (Some q) f g =
-        let x = waited-in r.number h.interfaces p (f ∙ g) in
-        absurd (not-both (is_enumeration p.step)
-        (fits.interfaces x.0 x.1 (r.number, p.step) x.3).0 (ap is_enumeration last))
+        ∙ ap (option_map idle) (found-there h.links k fits.links.rise i intf cport) in
+        closed r.number r.result r.payload k r.is i
+        (awaits ∙ ap (λ s. Some (r.number, s)) last)
+        (ap (λ (y : Link). y.connection) (same-some (idle k) l (sym then ∙ found)))
 
 -- ---- changes
 

@@ -84,7 +84,7 @@ change-tells (HostChange.departs i) h acts finds t = left-tells h (links_of i h)
     (λ l j. (in-filter (λ (k : Link). k.intf == i) h.links l j).0) t
 change-tells (HostChange.turns_to i c to None) h acts finds t = t
 change-tells (HostChange.turns_to i c to (Some l)) h acts finds t =
-    (at-tells h i c l to finds.0, t)
+    (at-tells h i c l to finds, t)
 change-tells (HostChange.closes i c l) h acts finds t = (at-tells h i c l state.Closing finds, t)
 change-tells (HostChange.leaves p None) h acts finds t = t
 change-tells (HostChange.leaves p (Some l)) h acts finds t =
@@ -110,4 +110,4 @@ turns-tell e h = over-turn e h (tells_law (at_notice e h))
 
 -- where a request can't be made
 pub unsent-told : (p : Purpose) (h : Host) → Each (TellsLink h) (unsent p h).told
-unsent-told p h = told-acts h (unsent p h).told (over-unsent p h (tells_law (at_unsent p)))
+unsent-told p h = told-acts h (unsent p h).told (over-unsent p h (tells_law (at_unsent p h)))

@@ -1,92 +1,94 @@
--- The facts of the application processor's connections go over each of its turns.
-use Rattle.std.proofs.Common.{Bool, List, None, Option, Some, ap, false, inl, inr, refl, subst, sym}
-use Rattle.std.proofs.Common.{true, ℕ, ⊎_elim, [], ◌++◌, ◌∙◌, ◌∷◌, ◌≡◌, ◌≢◌, ◌≤◌}
-use Rattle.std.specs.Prelude.{not, option_and_then, ◌==◌}
-use Rattle.gb_base.specs.declared.entry.Entry.TheVariants as entry
+-- Each turn of the application processor fits its connections.
+use Rattle.std.proofs.Common.{Bool, List, None, Option, Some, ap, false, inl, inr, refl, subst}
+use Rattle.std.proofs.Common.{sym, true, ℕ, ⊎_elim, [], ◌∙◌, ◌∷◌, ◌≡◌, ◌≢◌, ◌≤◌}
+use Rattle.std.specs.Prelude.{not, ◌==◌}
+use Rattle.gb_base.specs.declared.entry.ConnState.{ConnState}
+use Rattle.gb_base.specs.declared.entry.ConnState.TheVariants as state
 use Rattle.gb_base.specs.declared.entry.IntfStage.TheVariants as stage
-use Rattle.gb_base.specs.declared.interface.{Interface.Interface, Link.Link}
+use Rattle.gb_base.specs.declared.host_event.HostEvent.TheVariants as host_event
+use Rattle.gb_base.specs.declared.interface.{Link.Link}
+use Rattle.gb_base.specs.declared.steps.Purpose.{Purpose}
 use Rattle.gb_base.specs.declared.steps.SequenceStep.TheVariants as steps
-use Rattle.gb_formats.specs.Manifest.{CportView}
-use Rattle.gb_machine.proofs.{Conditions.AreUnmet, Options.none-of, Options.some-of}
-use Rattle.gb_machine.specs.Host.{Host, cport_of, free_cport, interface_of, intf_before, is_intf}
-use Rattle.gb_machine.specs.Host.{is_link, link_at, new_interface, with_new_interface}
-use Rattle.gb_machine.specs.HostTurns.{connects, connects_on, host_connects, host_inserted}
-use Rattle.gb_machine.specs.HostTurns.{host_removed, links_left, links_of, without_interface}
-use Rattle.gb_machine.specs.{Bus.Bus, HostRefusals.connect_conditions, Lists.without, Members.IsIn}
-use Rattle.gb_machine.specs.{SequenceSteps.purpose, Sequences.step_asked, Sequences.target}
-use Rattle.gb_machine.specs.{Turns.Act}
-use Rattle.gb_invariants.proofs.Lists.{filter-in, found-in, in-filter, in-front, in-without}
+use Rattle.gb_machine.proofs.Conditions.{AreUnmet}
+use Rattle.gb_machine.specs.Host.{Host, in_state, interface_of, intf_before, is_draining, is_intf}
+use Rattle.gb_machine.specs.Host.{is_link, link_at, new_interface, staged, with_freed}
+use Rattle.gb_machine.specs.HostRefusals.{drain_conditions, is_ending, is_failed, is_unopened}
+use Rattle.gb_machine.specs.HostRefusals.{link_conditions}
+use Rattle.gb_machine.specs.HostTurns.{links_left, links_of}
+use Rattle.gb_machine.specs.{Arriving.state_takes, Bus.Bus, Failures.told_of}
+use Rattle.gb_machine.specs.{Failures.unsent, Lists.without, Members.IsIn, Sequences.enumerated}
+use Rattle.gb_machine.specs.{SequenceSteps.purpose}
+use Rattle.gb_machine.specs.Turns.{Act, failed_turn, turn}
+use Rattle.gb_invariants.proofs.HostChanges.{Finds, HostChange, HostEnd, IsFor, IsLast, Notice}
+use Rattle.gb_invariants.proofs.HostChanges.{Occasion, TurnLaw, TurnsFor, acts_by, at_event}
+use Rattle.gb_invariants.proofs.HostChanges.{at_insertion, at_notice, at_unsent, changes-ask}
+use Rattle.gb_invariants.proofs.HostChanges.{end_of, host_after, is_creating, turn_of}
+use Rattle.gb_invariants.proofs.Lists.{filter-in, found-in, in-filter, in-without, stays-without}
 use Rattle.gb_invariants.proofs.Lists.{two-filter}
-use Rattle.gb_invariants.proofs.{Awaiting.none-some, Awaiting.not-both, Found.find-none}
-use Rattle.gb_invariants.proofs.{Found.in-ordered, Outcomes.is-same, Outcomes.same-number}
-use Rattle.gb_laws.proofs.links.LinkHosts.{kept-same, links-without, none-without, same-link}
-use Rattle.gb_laws.proofs.links.LinkHosts.{without-in}
-use Rattle.gb_laws.proofs.links.LinkLists.{link-is, one-link, ordered-differ, ordered-in}
-use Rattle.gb_laws.proofs.links.LinkLists.{ordered-stays}
-use Rattle.gb_laws.proofs.links.Links.{AreOther, ArePending, HasNoControl, HostFits, IsEnumerating}
-use Rattle.gb_laws.proofs.links.Links.{IsFollowed, IsPresent, TurnFits, connection, leaves, stays}
-use Rattle.gb_laws.proofs.{links.Controls.control-none, links.LinkFails.fits-telling}
-use Rattle.gb_laws.proofs.{links.LinkFails.followed-same}
-use Rattle.gb_laws.proofs.{links.LinkSteps.fits-asked, links.LinkSteps.free_cport-is}
+use Rattle.gb_invariants.proofs.{Awaiting.none-some, Awaiting.not-both, Awaiting.same-some}
+use Rattle.gb_invariants.proofs.{Found.changed-in, Found.find-none, Found.in-ordered}
+use Rattle.gb_invariants.proofs.{OverFailures.over-unsent, OverTurns.over-turn}
+use Rattle.gb_laws.proofs.links.LinkAsks.{fits-asking, fits-making}
+use Rattle.gb_laws.proofs.links.LinkDue.{IsAllowed, Starts, absent-other, asks-due, closing-idle}
+use Rattle.gb_laws.proofs.links.LinkDue.{completes-due, control-idle, ends-well, fails-idle}
+use Rattle.gb_laws.proofs.links.LinkDue.{makes-free, noticed-allowed, still-idle}
+use Rattle.gb_laws.proofs.links.LinkFits.{TurnFits, fits-interface, fits-link, fits-same, fits-then}
+use Rattle.gb_laws.proofs.links.LinkFits.{waits-not}
+use Rattle.gb_laws.proofs.links.LinkHosts.{come-without, host-images, host-without}
+use Rattle.gb_laws.proofs.links.LinkHosts.{same-link, state-link, stay-changed}
+use Rattle.gb_laws.proofs.links.LinkLists.{found-its, found-there, link-is, one-link}
+use Rattle.gb_laws.proofs.links.LinkLists.{ordered-differ, ordered-stays}
+use Rattle.gb_laws.proofs.links.Links.{AreOther, ArePending, HostFits, IsDeaf, IsDue, IsEnumerating}
+use Rattle.gb_laws.proofs.links.Links.{IsFollowed, leaves, stays}
 
--- ---- insertion and removal
+-- ---- connections are given up
 
--- an interface that is absent has no connection
-absent-none : (b : Bus) (i : ℕ) (h : Host) → HostFits b h → interface_of i h ≡ None
-    → HasNoControl i h.links
-absent-none b i h fits absent l j = by (is_link i 0 l) refl
+-- each other one stays
+followed-left : (test : Link → Bool) (ls : List Link) (acts : List Act)
+    → ((l : Link) → IsIn l ls → test l ≡ true → IsIn (Act.Leave l.connection) acts) → (l : Link)
+    → IsIn l ls → IsFollowed l (without test ls) acts
+followed-left test ls acts left l i = by (test l) refl
   where
-    by : (t : Bool) → is_link i 0 l ≡ t → t ≡ false
-    by false e = refl
-    by true e =
-        let at = link-is i 0 l e in
-        let p = fits.present l j in
-        absurd (not-both (is_intf i p.interface) (ap (λ n. n == i) (p.is ∙ at.0) ∙ is-same i)
-        (find-none (is_intf i) h.interfaces p.interface absent p.known))
+    by : (t : Bool) → test l ≡ t → IsFollowed l (without test ls) acts
+    by false e = stays l (stays-without test ls l i e) (same-link l)
+    by true e = leaves (left l i e)
 
-pub fits-inserted : (b : Bus) (p i : ℕ) (h : Host) → HostFits b h → interface_of i h ≡ None
-    → TurnFits b (with_new_interface p i h) (host_inserted p i h)
-fits-inserted b p i h fits absent =
-    fits-telling b (with_new_interface p i h) (entry.Interface i stage.Enumerating)
-    (step_asked (purpose i 0 steps.EnableVsys) (with_new_interface p i h))
-    (fits-asked (purpose i 0 steps.EnableVsys) (record {
-      links = fits.links;
-      interfaces = λ x j. ⊎_elim (λ e. subst (IsEnumerating h.links) (sym e)
-          (λ w f. absurd (none-some f)))
-          (λ o. fits.interfaces x o) (in-ordered intf_before x (new_interface p i) h.interfaces j);
-      differ = ordered-differ intf_before (new_interface p i) h.interfaces
-          (λ x j e. other x j (sym e)) fits.differ;
-      present = λ l j. let q = fits.present l j in
-          record {
-            interface = q.interface;
-            known = ordered-stays intf_before q.interface (new_interface p i) h.interfaces q.known;
-            is = q.is;
-          };
-    }) (record {
-      cport = refl;
-      none = λ e. absent-none b i h fits absent;
-      idle = λ x j e. ⊎_elim (λ f. ap (λ (y : Interface). y.awaits) f) (λ o. absurd (other x o e))
-          (in-ordered intf_before x (new_interface p i) h.interfaces j);
-      present = record {
-        interface = new_interface p i;
-        known = ordered-in intf_before (new_interface p i) h.interfaces;
-        is = refl;
+-- and has another number
+left-other : {b : Bus} {h : Host} (test : Link → Bool) → HostFits b h → (l k : Link)
+    → IsIn l h.links → test l ≡ true → IsIn k (without test h.links)
+    → k.connection ≢ l.connection
+left-other {h} test fits l k live its rest e =
+    let w = in-without test h.links k rest in
+    not-both (test k) (ap test (one-link h.links k l fits.links.rise w.0 live e) ∙ its) w.1
+
+-- ---- an interface comes or goes
+
+fits-arriving : {b : Bus} (p i : ℕ) (h : Host) → HostFits b h → interface_of i h ≡ None
+    → HostFits b (host_after (HostChange.arrives p i) h)
+fits-arriving p i h fits absent = record {
+  links = fits.links;
+  interfaces = λ x j. ⊎_elim (λ e. subst (IsEnumerating h.links) (sym e)
+      (λ w f. absurd (none-some f)))
+      (λ o. fits.interfaces x o) (in-ordered intf_before x (new_interface p i) h.interfaces j);
+  differ = ordered-differ intf_before (new_interface p i) h.interfaces
+      (λ x j e. absent-other i h absent x j (sym e)) fits.differ;
+  present = λ l j. let q = fits.present l j in
+      record {
+        interface = q.interface;
+        known = ordered-stays intf_before q.interface (new_interface p i) h.interfaces q.known;
+        is = q.is;
       };
-    }) (λ e. absurd cc))
-  where
-    other : (x : Interface) → IsIn x h.interfaces → x.intf ≡ i → ⊥
-    other x j e = not-both (is_intf i x) (ap (λ n. n == i) e ∙ is-same i)
-        (find-none (is_intf i) h.interfaces x absent j)
+}
 
-pending-left : (g : Host) (ls : List Link) (x : Act) → ((l : Link) → IsIn l ls → 2 ≤ l.connection)
+pending-left : (g : Host) (ls : List Link) → ((l : Link) → IsIn l ls → 2 ≤ l.connection)
     → ((l k : Link) → IsIn l ls → IsIn k g.links → k.connection ≡ l.connection → ⊥)
-    → ArePending g (x ∷ []) → ArePending g (links_left ls ++ x ∷ [])
-pending-left g [] x two none h = h
-pending-left g (l ∷ ls) x two none h = (
+    → ArePending g (links_left ls)
+pending-left g [] two none = tt
+pending-left g (l ∷ ls) two none = (
   (two l (inl refl), λ k j e. absurd (none l k (inl refl) j e)),
   (
     (two l (inl refl), λ k j e. none l k (inl refl) j e),
-    (tt, pending-left g ls x (λ m i. two m (inr i)) (λ m k i j e. none m k (inr i) j e) h),
+    (tt, pending-left g ls (λ m i. two m (inr i)) (λ m k i j e. none m k (inr i) j e)),
   ),
 )
 
@@ -95,116 +97,211 @@ left-in [] l i = absurd i
 left-in (k ∷ ks) l (inl e) = inr (inl (ap (λ (x : Link). Act.Leave x.connection) e))
 left-in (k ∷ ks) l (inr j) = inr (inr (inr (left-in ks l j)))
 
-pub fits-removed : (b : Bus) (i : ℕ) (h : Host) → HostFits b h → TurnFits b h (host_removed i h)
-fits-removed b i h fits = record {
+fits-departing : {b : Bus} (i : ℕ) (h : Host) → HostFits b h
+    → TurnFits b h (turn (host_after (HostChange.departs i) h) (links_left (links_of i h)))
+fits-departing {b} i h fits = record {
   host = record {
-    links = links-without b (λ l. l.intf == i) fits.links;
-    interfaces =
-        λ x j w e. let old = fits.interfaces x (in-without (is_intf i) h.interfaces x j).0 w e in
-        (old.0, λ early. none-without x.intf (λ l. l.intf == i) h.links (old.1 early));
+    links = rest.links;
+    interfaces = λ x j. rest.interfaces x (in-without (is_intf i) h.interfaces x j).0;
     differ = two-filter AreOther (λ x. not (is_intf i x)) h.interfaces fits.differ;
-    present = λ l j.
-        let w = in-without (λ (x : Link). x.intf == i) h.links l j in
-        let p = fits.present l w.0 in
-        record {
-          interface = p.interface;
-          known = filter-in (λ x. not (is_intf i x)) h.interfaces p.interface p.known
-              (ap not (ap (λ n. n == i) p.is ∙ w.1));
-          is = p.is;
-        };
+    present = λ l j. let p = rest.present l j in record {
+      interface = p.interface;
+      known = filter-in (λ x. not (is_intf i x)) h.interfaces p.interface p.known
+          (ap not (ap (λ n. n == i) p.is ∙ (in-without its h.links l j).1));
+      is = p.is;
+    };
   };
-  pending = pending-left (without_interface i h) (links_of i h) _
-      (λ l j. (fits.links.numbered l (in-filter (λ (x : Link). x.intf == i) h.links l
-      j).0).from_two) other (tt, tt);
-  followed = λ l j. by l j (l.intf == i) refl;
-  kept = λ x j. kept-same h.interfaces x (in-without (is_intf i) h.interfaces x j).0;
+  pending = pending-left (host_after (HostChange.departs i) h) (links_of i h)
+      (λ l j. (fits.links.numbered l (in-filter its h.links l j).0).from_two)
+      (λ l k j r. let f = in-filter its h.links l j in left-other its fits l k f.0 f.1 r);
+  followed = followed-left its h.links (links_left (links_of i h))
+      (λ l j e. left-in (links_of i h) l (filter-in its h.links l j e));
+  come = come-without its h.links;
 }
   where
-    other : (l k : Link) → IsIn l (links_of i h) → IsIn k (without (λ l. l.intf == i) h.links)
-        → k.connection ≡ l.connection → ⊥
-    other l k a c e =
-        let f = in-filter (λ (x : Link). x.intf == i) h.links l a in
-        let w = in-without (λ (x : Link). x.intf == i) h.links k c in
-        not-both (l.intf == i) f.1 (ap (λ (x : Link). x.intf == i)
-        (sym (one-link h.links k l fits.links.rise w.0 f.0 e)) ∙ w.1)
+    its : Link → Bool
+    its l = l.intf == i
 
-    by : (l : Link) → IsIn l h.links → (t : Bool) → (l.intf == i) ≡ t
-        → IsFollowed l (without (λ l. l.intf == i) h.links)
-        (links_left (links_of i h) ++ Act.Tell (entry.Interface i stage.Removed) ∷ [])
-    by l j false e = stays l (without-in (λ x. x.intf == i) h.links l j e) (same-link l)
-    by l j true e = leaves (in-front _ (links_left (links_of i h)) _
-        (left-in (links_of i h) l (filter-in (λ x. x.intf == i) h.links l j e)))
+    rest : HostFits b (record h { links = without its h.links })
+    rest = host-without its fits
 
--- ---- connect
+-- ---- a connection changes
 
-pub fits-connects : (b : Bus) (i c : ℕ) (h : Host) → HostFits b h
-    → AreUnmet (connect_conditions i c h) → c ≤ 4095 → TurnFits b h (host_connects i c h)
-fits-connects b i c h fits met low = by (option_and_then (cport_of c) (interface_of i h)) refl
+-- one that waits for nothing has another state
+fits-state : {b : Bus} {h : Host} (i c : ℕ) (to : ConnState) (o : Option Link)
+    → ((l : Link) → link_at i c h ≡ Some l → l.awaits ≡ None)
+    → ((l : Link) → link_at i c h ≡ Some l → IsDeaf l → state_takes to ≡ false)
+    → ((l : Link) → link_at i c h ≡ Some l → is_draining to ≡ true → l.cport ≢ 0)
+    → HostFits b h
+    → TurnFits b h (turn (host_after (HostChange.turns_to i c to o) h)
+    (acts_by (HostChange.turns_to i c to o) h))
+fits-state i c to o idle takes plain fits =
+    fits-link i c (in_state to) (told_of to o) (state-link to)
+    (λ l e. record {
+      waiting = λ w. waits-not (in_state to l) (idle l e);
+      deaf = λ d. record { cport = d.cport; takes = takes l e d };
+      draining = λ d drains. plain l e drains;
+    }) fits
+
+-- an open connection isn't ending
+open-state : (s : ConnState) → is_unopened s ≡ false → is_ending s ≡ false → is_failed s ≡ false
+    → s ≡ state.Open
+open-state state.Open h k f = refl
+open-state _ h k f = absurd cc
+
+-- nothing is taken, and something is
+hears : {A : Type 0} (s : ConnState) → state_takes s ≡ true → state_takes s ≡ false → A
+hears s takes deaf = absurd (not-both (state_takes s) takes deaf)
+
+fits-closing : {b : Bus} (i c : ℕ) (l : Link) (h : Host) → (c ≢ 0) × (l.awaits ≡ None)
+    → link_at i c h ≡ Some l → HostFits b h
+    → TurnFits b h (turn (host_after (HostChange.closes i c l) h)
+    (acts_by (HostChange.closes i c l) h))
+fits-closing {b} i c l h idle found fits = record {
+  host = r.host;
+  pending = (
+    (
+      (fits.links.numbered l at.0).from_two,
+      λ k j e. subst IsDeaf (one-link _ (in_state state.Closing l) k r.host.links.rise
+          (changed-in (is_link i c) (in_state state.Closing) h.links l found) j (sym e))
+          (record { cport = λ z. idle.0 (sym at.2 ∙ z); takes = refl }),
+    ),
+    (tt, tt),
+  );
+  followed = λ k j. let s = stay-changed h.links i c (in_state state.Closing)
+      (state-link state.Closing) k j in stays s.0 s.1 s.2;
+  come = r.come;
+}
   where
-    at : link_at i c h ≡ None
-    at = none-of (link_at i c h) met.1.1.1.1.1.0
+    at : IsIn l h.links × (l.intf ≡ i) × (l.cport ≡ c)
+    at = found-its i c h.links l found
 
-    present : IsPresent i h.interfaces
-    present =
-        let there = some-of (interface_of i h) met.0 in
-        let k = found-in (is_intf i) h.interfaces there.0 there.1 in
-        record { interface = there.0; known = k.0; is = same-number there.0.intf i k.1 }
+    r : TurnFits b (with_freed l.connection h)
+        (turn (host_after (HostChange.closes i c l) h) [])
+    r = fits-state i c state.Closing None
+        (λ y f. ap (λ (x : Link). x.awaits) (sym (same-some l y (sym found ∙ f))) ∙ idle.1)
+        (λ y f d. refl) (λ y f drains. absurd cc)
+        (host-images (with_freed l.connection h).images fits)
 
-    nothing : TurnFits b h (record { host = h; acts = [] })
-    nothing = record {
-      host = fits;
+-- one is given up
+fits-leaving : {b : Bus} (p : Purpose) (o : Option Link) (h : Host)
+    → link_at p.intf p.cport h ≡ o → HostFits b h
+    → TurnFits b h (turn (host_after (HostChange.leaves p o) h)
+    (acts_by (HostChange.leaves p o) h))
+fits-leaving {b} p o h found fits = by o found
+  where
+    its : Link → Bool
+    its = is_link p.intf p.cport
+
+    by : (o : Option Link) → link_at p.intf p.cport h ≡ o
+        → TurnFits b h (turn (host_after (HostChange.leaves p o) h)
+        (acts_by (HostChange.leaves p o) h))
+    by None found = record {
+      host = host-without its fits;
       pending = tt;
-      followed = followed-same;
-      kept = kept-same h.interfaces;
+      followed = followed-left its h.links []
+          (λ l i e. absurd (not-both (its l) e (find-none its h.links l found i)));
+      come = come-without its h.links;
     }
-
-    undeclared : (o : Option Interface) → option_and_then (cport_of 0) o ≡ None
-    undeclared None = refl
-    undeclared (Some x) = control-none x
-
-    other : (view : CportView) → option_and_then (cport_of c) (interface_of i h) ≡ Some view → c ≢ 0
-    other view e z = none-some (sym (undeclared (interface_of i h))
-        ∙ ap (λ k. option_and_then (cport_of k) (interface_of i h)) (sym z) ∙ e)
-
-    on : (view : CportView) → option_and_then (cport_of c) (interface_of i h) ≡ Some view
-        → (o : Option ℕ) → free_cport h ≡ o
-        → TurnFits b h (connects_on o view.protocol (purpose i c steps.CreateConnection) h)
-    on view e' None f = nothing
-    on view e' (Some a) f = let cport = free_cport-is h a f in record {
-      host = fits;
+    by (Some k) found = let there = found-in its h.links k found in record {
+      host = host-without its fits;
       pending = (
         (
-          record {
-            step = connection (other view e');
-            intf = refl;
-            cport = refl;
-            from_one = cport.from_one;
-            within = cport.within;
-            cport_within = low;
-            ap = cport.other;
-            at = λ l j. find-none (is_link i c) h.links l at j;
-            idle = λ z. absurd (other view e' z);
-            present = present;
-            formed = record {
-              target = target a (purpose i c steps.CreateConnection) h;
-              kind = refl;
-              payload = refl;
-              intf = refl;
-              cport = refl;
-              created = λ e. (other view e', low);
-              on = λ e. refl;
-              control = λ e. absurd cc;
-            };
-          },
-          refl,
+          (fits.links.numbered k there.0).from_two,
+          λ l i. left-other its fits k l there.0 there.1 i,
         ),
-        tt,
+        (tt, tt),
       );
-      followed = followed-same;
-      kept = kept-same h.interfaces;
+      followed = followed-left its h.links _ (λ l i e.
+          let at = link-is p.intf p.cport l e in
+          inl (ap (λ (x : Link). Act.Leave x.connection) (same-some l k
+          (sym (found-there h.links l fits.links.rise i at.0 at.1) ∙ found))));
+      come = come-without its h.links;
     }
 
-    by : (o : Option CportView) → option_and_then (cport_of c) (interface_of i h) ≡ o
-        → TurnFits b h (connects o (purpose i c steps.CreateConnection) h)
-    by None e = nothing
-    by (Some view) e = on view e (free_cport h) refl
+-- ---- the law of turns
+
+module _ (b : Bus) (o : Occasion) (start : Starts b o) where
+  turning-fits : (i c : ℕ) (to : ConnState) (l : Option Link) (h : Host) → TurnsFor to o h i c
+      → HostFits b h → TurnFits b h (turn (host_after (HostChange.turns_to i c to l) h)
+      (acts_by (HostChange.turns_to i c to l) h))
+  turning-fits i c state.Open l h (step, inl why) fits =
+      let due = completes-due b o (purpose i c step) steps.CreateControl h start why in
+      fits-state i c state.Open l (λ k e. control-idle i c k fits due.cport e)
+      (λ k e d. absurd (d.cport ((found-its i c h.links k e).2 ∙ due.cport)))
+      (λ k e drains. absurd cc) fits
+  turning-fits i c state.Open l h (step, inr why) fits =
+      let due = completes-due b o (purpose i c step) steps.TellConnected h start why in
+      fits-state i c state.Open l due.idle
+      (λ k e d. hears k.state (ap state_takes (due.state k e)) d.takes)
+      (λ k e drains. absurd cc) fits
+  turning-fits i c state.Draining l h why fits =
+      fits-state i c state.Draining l (λ k e. still-idle k
+      (fits.links.waiting k (found-its i c h.links k e).0)
+      (λ f. let is = open_ k e in absurd cc) (λ f. let is = open_ k e in absurd cc))
+      (λ k e d. hears k.state (ap state_takes (open_ k e)) d.takes)
+      (λ k e drains z. not-both (c == 0)
+      (ap (λ n. n == 0) (sym (found-its i c h.links k e).2 ∙ z)) met.1.0) fits
+    where
+      met : AreUnmet (drain_conditions i c h)
+      met = noticed-allowed b o (at_event (host_event.Drain i c)) h start why
+
+      open_ : (k : Link) → link_at i c h ≡ Some k → k.state ≡ state.Open
+      open_ k e =
+          let may = subst (λ x. AreUnmet (link_conditions is_ending x)) e met.1.1 in
+          open-state k.state may.0 may.1.0 may.1.1.0
+  turning-fits i c state.Failed l h (step, why) fits =
+      fits-state i c state.Failed l (fails-idle b o (purpose i c step) h start why fits)
+      (λ k e d. refl) (λ k e drains. absurd cc) fits
+  turning-fits i c _ l h why fits = absurd why
+
+  change-fits : (x : HostChange) (h : Host) → Finds h x → IsFor o h x → HostFits b h
+      → TurnFits b h (turn (host_after x h) (acts_by x h))
+  change-fits (HostChange.tells e) h of why fits = fits-same (e ∷ []) refl fits
+  change-fits (HostChange.arrives p i) h finds why fits =
+      fits-same [] refl
+      (fits-arriving p i h fits (noticed-allowed b o (at_insertion p i) h start why))
+  change-fits (HostChange.departs i) h finds why fits = fits-departing i h fits
+  change-fits (HostChange.resumes p) h finds why fits =
+      (ends-well b o p h why fits).fits
+  change-fits (HostChange.updates i f) h keeps why fits =
+      fits-interface i f [] keeps.intf keeps.awaits fits
+  change-fits (HostChange.fails i) h finds why fits =
+      fits-interface i (staged stage.Failed) [] (λ x. refl) (λ x. refl) fits
+  change-fits (HostChange.turns_to i c to l) h finds why fits =
+      turning-fits i c to l h why fits
+  change-fits (HostChange.closes i c l) h found why fits =
+      fits-closing i c l h (closing-idle b o i c l h start why found) found fits
+  change-fits (HostChange.leaves p l) h found why fits = fits-leaving p l h found fits
+
+  end-fits : (x : HostEnd) (h : Host) → IsLast o h x → HostFits b h → TurnFits b h (end_of x h)
+  end-fits HostEnd.rests h last fits = fits-same [] refl fits
+  end-fits (HostEnd.asks k p) h last fits =
+      fits-asking k p h (asks-due b o p h start last.0) last.1 last.2 fits
+  end-fits (HostEnd.makes a protocol p) h last fits =
+      fits-making a protocol p h (makes-free b o p h start last.0 last.1) last.2 fits
+  end-fits (HostEnd.enumerates p bytes) h last fits =
+      fits-interface p.intf (enumerated bytes) (_ ∷ []) (λ x. refl) (λ x. refl) fits
+
+  abbrev fits_law : TurnLaw o
+  fits_law = record {
+    says = λ h t. HostFits b h → TurnFits b h t;
+    ends = end-fits;
+    over = λ x h t finds why s fits.
+        let first = change-fits x h finds why fits in
+        fits-then (host_after x h) (acts_by x h) t (changes-ask x h) first (s first.host);
+  }
+
+-- ---- turns
+
+-- What the application processor does at what it takes notice of fits.
+pub turn-fits : {b : Bus} (x : Notice) {h : Host} → IsAllowed x h → HostFits b h
+    → TurnFits b h (turn_of x h)
+turn-fits {b} x {h} allowed fits =
+    over-turn x h (fits_law b (at_notice x h) (fits, allowed)) fits
+
+-- So does what it does where a request can't be made.
+pub unsent-fits : {b : Bus} (p : Purpose) {h : Host}
+    → (is_creating p.step ≡ false → IsDue p.step p h) → HostFits b h
+    → TurnFits b h (failed_turn (unsent p h))
+unsent-fits {b} p {h} due fits = over-unsent p h (fits_law b (at_unsent p h) (fits, due)) fits

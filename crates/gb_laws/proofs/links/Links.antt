@@ -9,7 +9,7 @@ use Rattle.gb_base.specs.declared.steps.{Purpose.Purpose, SequenceStep.SequenceS
 use Rattle.gb_base.specs.declared.steps.SequenceStep.TheVariants as steps
 use Rattle.gb_machine.specs.SequenceSteps.{Target, asks_control, is_enumeration, kind_of}
 use Rattle.gb_machine.specs.SequenceSteps.{payload_of}
-use Rattle.gb_machine.specs.Turns.{Act, Asking, Making, Turn}
+use Rattle.gb_machine.specs.Turns.{Act, Asking, Making}
 use Rattle.gb_machine.specs.{Arriving.state_takes, Bus.Bus, Bus.Connection, Host.Host}
 use Rattle.gb_machine.specs.{Host.is_draining, Host.is_link}
 use Rattle.gb_machine.specs.{Members.EachTwo, Members.IsIn}
@@ -198,13 +198,6 @@ pub record SameLink (l k : Link) : Type 0 where
 pub data IsFollowed (l : Link) (ls : List Link) (acts : List Act) : Type 0 where
   stays : (k : Link) → IsIn k ls → SameLink l k → IsFollowed l ls acts
   leaves : IsIn (Act.Leave l.connection) acts → IsFollowed l ls acts
-
--- What a turn keeps.
-pub record TurnFits (b : Bus) (h : Host) (t : Turn) : Type 0 where
-  pub host : HostFits b t.host
-  pub pending : ArePending t.host t.acts
-  pub followed : (l : Link) → IsIn l h.links → IsFollowed l t.host.links t.acts
-  pub kept : (x : Interface) → IsIn x t.host.interfaces → IsPresent x.intf h.interfaces
 
 -- ---- the bus and the application processor
 

@@ -7,12 +7,12 @@ use Rattle.gb_base.specs.declared.steps.Purpose.{Purpose}
 use Rattle.gb_base.specs.declared.steps.SequenceStep.{SequenceStep}
 use Rattle.gb_base.specs.declared.entry.IntfStage.TheVariants as stage
 use Rattle.gb_machine.specs.Host.{Host, intf_before, is_intf, new_interface, staged, with_interface}
-use Rattle.gb_machine.specs.Host.{with_link}
 use Rattle.gb_machine.specs.Sequences.{enumerated}
 use Rattle.gb_machine.specs.{HostActs.made_for, HostActs.with_awaited, Host.link_at, Members.IsIn}
-use Rattle.gb_machine.specs.{Failures.unsent, HostServing.host_serves, SequenceSteps.is_enumeration}
+use Rattle.gb_machine.specs.{Failures.unsent, HostServing.host_serves}
 use Rattle.gb_machine.specs.{SequenceSteps.is_for_connection, State.State, Waits.awaits}
 use Rattle.gb_machine.specs.{Waits.waiting}
+use Rattle.gb_invariants.proofs.HostChanges.{interface_awaits, waiting-by}
 use Rattle.gb_invariants.proofs.HostChanges.{Finds, HostChange, HostEnd, IsFor, IsLast, Notice}
 use Rattle.gb_invariants.proofs.HostChanges.{Occasion, TurnLaw, at_insertion, at_notice, at_unsent}
 use Rattle.gb_invariants.proofs.HostChanges.{end_of, host_after, turn_of}
@@ -50,18 +50,13 @@ fewer-with i f h intf primary x k = ⊎_elim (λ o. named-one h x o)
 
 fewer-waiting : (w : Option (ℕ × SequenceStep)) (p : Purpose) (h : Host)
     → NamesFewer h (waiting w p h)
-fewer-waiting w p h = by (is_enumeration p.step)
-  where
-    by : (t : Bool) → NamesFewer h (cond t
-        (with_interface p.intf (λ x. record x { awaits = w }) h)
-        (with_link p.intf p.cport (λ l. record l { awaits = w }) h))
-    by true = fewer-with p.intf (λ x. record x { awaits = w }) h (λ x. refl) (λ x. refl)
-    by false = named-one h
+fewer-waiting w p h = waiting-by (NamesFewer h) w p h
+    (λ e. fewer-with p.intf (interface_awaits w) h (λ x. refl) (λ x. refl)) (λ e. named-one h)
 
 -- what an occasion makes known
 abbrev pub IsNew : Occasion → ℕ → ℕ → Type 0
 IsNew (at_notice x before) i p = x ≡ at_insertion p i
-IsNew (at_unsent q) i p = ⊥
+IsNew (at_unsent q before) i p = ⊥
 
 -- an interface was known, or is inserted on this occasion
 abbrev pub WasNamed : Occasion → ℕ → ℕ → Host → Type 0
@@ -80,7 +75,7 @@ module _ (o : Occasion) where
           → IsNew o y.intf y.primary
       new (at_notice x before) why e = why.0
           ∙ ap (λ (z : Interface). at_insertion z.primary z.intf) (sym e)
-      new (at_unsent q) why e = why
+      new (at_unsent q before) why e = why
   change-named (HostChange.departs i) h finds why y k =
       inl (named-one h y (in-without (is_intf i) h.interfaces y k).0)
   change-named (HostChange.resumes p) h finds why y k = inl (fewer-waiting None p h y k)
@@ -121,7 +116,7 @@ turn-named x h = over-turn x h (named_law (at_notice x h))
 -- where a request can't be made
 pub unsent-named : (p : Purpose) (h : Host) → NamesFewer h (unsent p h).host
 unsent-named p h y k =
-    ⊎_elim (λ n. n) (λ n. absurd n) (over-unsent p h (named_law (at_unsent p)) y k)
+    ⊎_elim (λ n. n) (λ n. absurd n) (over-unsent p h (named_law (at_unsent p h)) y k)
 
 -- where a sequence waits for a request
 pub awaited-named : (p : Purpose) (n : ℕ) (s : State) → NamesFewer s.host (with_awaited p n s).host

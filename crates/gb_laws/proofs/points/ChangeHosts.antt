@@ -1,7 +1,7 @@
 -- What a single change at a point does to the application processor, and to what it has
 -- still to ask.
 use Rattle.std.proofs.Common.{List, ap, inl, inr, subst, sym, [], ◌∷◌, ◌≡◌}
-use Rattle.gb_machine.specs.{Failures.unsent, Host.Host, HostServing.host_serves}
+use Rattle.gb_machine.specs.{Host.Host, HostServing.host_serves}
 use Rattle.gb_machine.specs.{HostServing.with_credits, LineActions.spent, Runs.Moment, Turns.Act}
 use Rattle.gb_machine.specs.{Turns.Asking}
 use Rattle.gb_invariants.proofs.Lists.{in-front}
@@ -9,7 +9,7 @@ use Rattle.gb_laws.proofs.enumerations.AskedWaits.{AsksIn, WaitsFewer, asks-more
 use Rattle.gb_laws.proofs.enumerations.AskedWaits.{same-waits}
 use Rattle.gb_laws.proofs.links.LinkActs.{ServedHost, as_before, awaited-host, awaits-fits}
 use Rattle.gb_laws.proofs.links.LinkActs.{host-served}
-use Rattle.gb_laws.proofs.links.LinkActs.{unsent-due, unsent-making, with_images, with_more}
+use Rattle.gb_laws.proofs.links.LinkActs.{unsent-stays, with_images, with_more}
 use Rattle.gb_laws.proofs.links.LinkHosts.{Stay, credits-link, same-link, stay-changed, stay-same}
 use Rattle.gb_laws.proofs.points.Points.{Change, IsAsking, acts_asked, acts_failed, acts_left}
 use Rattle.gb_laws.proofs.points.Points.{acts_made}
@@ -85,15 +85,9 @@ stay-kept m a (acts_made w q rest free is) still links =
 stay-kept m a (acts_asked q n rest is) still links =
     subst (λ (g : Host). Stay a.state.host.links g.links) (sym (awaited-host q.purpose n a.state))
     (awaits-fits q.purpose n links.host
-    (subst (ArePending a.state.host) is.0 links.pending).0.0).1.stay
-stay-kept m a (acts_failed q rest is quiet) still links = by is
-  where
-    by : IsAsking q a.pending rest
-        → Stay a.state.host.links (unsent q.purpose a.state.host).host.links
-    by (asking e) = (unsent-due q.purpose.step q.purpose links.host
-        (subst (ArePending a.state.host) e links.pending).0.0).1.stay
-    by (opening w e) = (unsent-making w q.purpose links.host
-        (subst (ArePending a.state.host) e links.pending).0.0.step).1.stay
+    (subst (ArePending a.state.host) is.0 links.pending).0.0).1
+stay-kept m a (acts_failed q rest is quiet) still links =
+    (unsent-stays q is links.pending links.host).1
 stay-kept m a (serves k kind payload none) still links = by (host-served k kind payload)
   where
     by : ServedHost a.state.host (host_serves k kind payload a.state.host)

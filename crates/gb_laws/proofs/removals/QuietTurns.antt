@@ -3,12 +3,15 @@
 use Rattle.std.proofs.Common.{List, None, Some, ap, inl, inr, refl, subst, sym, true, ℕ, ⊎_elim, []}
 use Rattle.std.proofs.Common.{◌∙◌, ◌≡◌}
 use Rattle.gb_base.specs.declared.steps.{Purpose.Purpose, SequenceStep.SequenceStep}
+use Rattle.std.specs.Prelude.{not}
+use Rattle.gb_machine.specs.SequenceSteps.{asks_control, is_enumeration}
 use Rattle.gb_machine.specs.Turns.{Act, Asking}
 use Rattle.gb_machine.specs.{Failures.unsent, Host.Host, HostActs.with_awaited}
 use Rattle.gb_machine.specs.{LawsBus.is_awaited, Members.IsIn, Ports.level_of, Runs.Moment}
 use Rattle.gb_machine.specs.{State.State}
 use Rattle.gb_invariants.proofs.{Awaiting.none-some, Awaiting.not-both, HostChanges.IsAnswered}
 use Rattle.gb_invariants.proofs.HostChanges.{Notice, turn_of}
+use Rattle.gb_invariants.proofs.Outcomes.{both-true}
 use Rattle.gb_laws.proofs.enumerations.Asked.{asks-calm, turn-waits, waits-unsent}
 use Rattle.gb_laws.proofs.enumerations.AskedWaits.{AsksIn, asks-more, is_power_step, no-asks}
 use Rattle.gb_laws.proofs.points.Points.{IsAsking, IsOver, asking, opening}
@@ -18,7 +21,7 @@ use Rattle.gb_laws.proofs.{points.Awaited.awaited-rest, links.LinkActs.awaited-i
 use Rattle.gb_laws.proofs.{links.LinkKept.LinkedAt}
 use Rattle.gb_laws.proofs.{points.PointParts.Basis, points.PointParts.Point}
 use Rattle.gb_laws.proofs.{removals.QuietAwaited.none-over}
-use Rattle.gb_laws.proofs.{removals.QuietAwaited.waited-by, removals.QuietKept.view-rest}
+use Rattle.gb_laws.proofs.{links.Waited.waited-enum, removals.QuietKept.view-rest}
 use Rattle.gb_laws.proofs.{svc.SvcThere.There}
 
 -- ---- turns
@@ -28,7 +31,8 @@ answered-calm : (m : Moment) (i : ℕ) (e : Notice) (a : Point) → Basis a → 
     → There a.state.bus → IsOver m e a.state.bus → IsQuiet i a → (p : Purpose)
     → IsAnswered e a.state.host p → p.intf ≡ i → is_power_step p.step ≡ true → IsCalm i a
 answered-calm m i e a basis links there over h p r at s =
-    let w = waited-by r.number a.state.host p links.host.links.waiting r.awaited s in
+    let w = waited-enum r.number p links.host r.awaited
+    (both-true (is_enumeration p.step) (not (asks_control p.step)) s).0 in
     let waits = h.waits w.interface w.known (w.intf ∙ at) (r.number, p.step) w.awaits s in
     let done = ((subst (λ f. IsOver m f a.state.bus) r.is over) r.result r.payload refl).0 in (
       none-over i r.number a basis links there done waits.last,

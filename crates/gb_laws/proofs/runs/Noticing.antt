@@ -25,12 +25,12 @@ use Rattle.gb_invariants.proofs.ModuleTurns.{takes_notice}
 use Rattle.gb_invariants.proofs.Wires.{alive-after}
 use Rattle.gb_laws.proofs.links.ActsFit.{ever-fit, fit-other}
 use Rattle.gb_laws.proofs.links.LinkChanges.{linked-ended, linked-gave_up, linked-popped}
-use Rattle.gb_laws.proofs.links.LinkKept.{InsertsAbsent, LinkedAt, linked-kept}
+use Rattle.gb_laws.proofs.links.LinkKept.{InsertsAbsent, LinkedAt, TurnsTo, event-allowed}
+use Rattle.gb_laws.proofs.links.LinkKept.{linked-kept, turned}
 use Rattle.gb_laws.proofs.links.LinkLives.{AreAlive, alive-from, alive-kept}
 use Rattle.gb_laws.proofs.links.Possible.{possible}
 use Rattle.gb_laws.proofs.points.PointParts.{IsCaused}
 use Rattle.gb_laws.proofs.steps.StepActs.{goes-acts}
-use Rattle.gb_laws.proofs.links.Turned.{TurnsTo, turned, turned-ended, turned-idle}
 use Rattle.gb_laws.proofs.{links.LinkFrom.Linked, links.LinkSources.from-turn}
 use Rattle.gb_laws.proofs.{runs.OfStates.reached-has}
 use Rattle.gb_laws.proofs.{creations.RememberedLive.SinceTo}
@@ -73,7 +73,7 @@ knows-ended n how s f =
     noticed-known (record { told = []; event = event.Show; before = s })
     (at_event (host_event.Ended n how)) s
     (λ p count i noticed. let at = noticed.event in absurd cc) (λ k e. absurd cc) tt
-    (turned-ended n how f.links) f.alive
+    (turned (at_event (host_event.Ended n how)) tt f.links) f.alive
 
 -- and where a drain isn't refused
 pub knows-drains : (i c : ℕ) (s : State) → refusal s (event.Drain i c) ≡ None → KnowsAt s
@@ -83,7 +83,8 @@ knows-drains i c s allowed f =
     let m : Moment = record { told = []; event = event.Drain i c; before = s } in
     noticed-known m (at_event (host_event.Drain i c)) s
     (λ p count j noticed. let at = noticed.event in absurd cc) (λ k e. absurd cc)
-    (refl, refl, allowed) (turned m (host_event.Drain i c) (refl, refl, allowed) f.links) f.alive
+    (refl, refl, allowed) (turned (at_event (host_event.Drain i c))
+    (event-allowed m (host_event.Drain i c) s.host (refl, refl, allowed)) f.links) f.alive
 
 -- ---- where it is known
 
@@ -118,7 +119,7 @@ may-idle k s f = record {
       let c = f.alive l found.0 in
       there c.connection c.live (ap (λ n. n == k) c.number ∙ found.1)
       (connection_of k s.bus) refl;
-  turn = (tt, possible _ (turned-idle k f.links));
+  turn = (tt, possible _ (turned (at_event (host_event.Idle k)) tt f.links));
 }
   where
     there : (c : Connection) → IsIn c s.bus.connections → has_number k c ≡ true
@@ -132,6 +133,6 @@ may-idle k s f = record {
 pub may-follow : (n : ℕ) (how : Outcome) (s : State)
     → KnowsAt s → MayFollow n how s
 may-follow n how s f = record {
-  turn = (tt, possible _ (turned-ended n how f.links));
+  turn = (tt, possible _ (turned (at_event (host_event.Ended n how)) tt f.links));
   idle = λ k. may-idle k (notices (host_event.Ended n how) s).state (knows-ended n how s f);
 }

@@ -34,7 +34,7 @@ use Rattle.gb_laws.proofs.identifiers.Single.{names-by_moments}
 use Rattle.gb_laws.proofs.links.{LinkFrom.Linked, LinkLists.found-link, Possible.possible}
 use Rattle.gb_laws.proofs.links.Links.{IsKnown, leaving, linked, supervisory}
 use Rattle.gb_laws.proofs.links.{Reading.read-by}
-use Rattle.gb_laws.proofs.links.Turned.{turned}
+use Rattle.gb_laws.proofs.links.LinkKept.{event-allowed, turned}
 use Rattle.gb_laws.proofs.{opened.FarItems.NoneRawToFar, opened.FarItems.is_raw}
 use Rattle.gb_laws.proofs.{opened.FarItems.unraw-throughout, points.Points.resting}
 use Rattle.gb_laws.proofs.points.PointParts.{IsCaused}
@@ -150,7 +150,7 @@ reached-turn s e (host_event.Inserted p count) r cause = absurd cause
 reached-turn s e (host_event.Removed p) r cause = absurd cause
 reached-turn s e x r cause =
     let m : Moment = record { told = []; event = e; before = s } in
-    (tt, possible _ (turned m x cause (reached-told s r).1))
+    (tt, possible _ (turned (at_event x) (event-allowed m x s.host cause) (reached-told s r).1))
 
 -- at a connect
 pub reached-connects : (s : State) (i c : ℕ) → OfARun s → refusal s (event.Connect i c) ≡ None

@@ -76,7 +76,7 @@ turn-follows e h = over-turn e h (follows_law (at_notice e h))
 
 -- and so does what fails where a request can't be made
 pub unsent-follows : (p : Purpose) (h : Host) → AreConsequences (unsent p h).told
-unsent-follows p h = by (unsent p h).told (over-unsent p h (follows_law (at_unsent p)))
+unsent-follows p h = by (unsent p h).told (over-unsent p h (follows_law (at_unsent p h)))
   where
     by : (es : List Entry) → Each TellsConsequence (map Act.Tell es) → AreConsequences es
     by [] h = tt
