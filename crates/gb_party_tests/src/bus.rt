@@ -2,11 +2,11 @@
 //! worked by hand.
 
 use crate::bus_acts::{
-    Act, DISPLAY, FAN, KEYS, LIGHT, PING, Seen, attaches, delivers, plays, replies, sends,
-    two_modules,
+    Act, DISPLAY, FAN, KEYS, LIGHT, Seen, attaches, delivers, plays, replies, sends, two_modules,
 };
 use gb_base::{End, Side};
 use gb_bus::{Asked, Bus};
+use gb_payload::svc_kinds::PING;
 use std::process::Abort;
 
 /// Requests that succeed, fail, are dropped, are unidirectional, time out, and are answered late.

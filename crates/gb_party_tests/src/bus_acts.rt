@@ -2,19 +2,20 @@
 
 use gb_base::{End, Numbers, Outcome, RawFault, Side};
 use gb_bus::{AlreadyEnded, Arrival, Arrived, Asked, Bus, DeliverFault, SendFault};
+use gb_payload::svc_kinds::PING;
 use std::alloc::Global;
 use std::process::Abort;
 
-/// The type PING of the SVC protocol.
-pub const PING: u8 = 19;
-
-/// The CPorts of the modules at interfaces 2 and 3.
+/// CPort 1 of the module at interface 2.
 pub const LIGHT: End = End::Module { intf: 2, cport: 1 };
 
+/// CPort 2 of the module at interface 2.
 pub const FAN: End = End::Module { intf: 2, cport: 2 };
 
+/// CPort 1 of the module at interface 3.
 pub const KEYS: End = End::Module { intf: 3, cport: 1 };
 
+/// CPort 2 of the module at interface 3.
 pub const DISPLAY: End = End::Module { intf: 3, cport: 2 };
 
 /// What is done. A connection has its number.
@@ -76,6 +77,7 @@ pub enum Seen {
     Spent(bool),
 }
 
+/// A side of a connection sends a ping, which has 500 ms.
 pub fn sends(bus: &mut Bus, k: u64, side: Side, oneway: bool) -> Seen {
     match bus.send(k, side, PING, &[5], 500, oneway) {
         Ok(sent) => Seen::Sent(sent.number, sent.label, sent.lost),
@@ -112,6 +114,7 @@ fn brought(connection: u64, item: &Arrival) -> Seen {
     }
 }
 
+/// The front message toward an end is delivered, where requests are taken or not.
 pub fn delivers(bus: &mut Bus, at: End, takes: bool) -> Seen {
     match bus.deliver(at, takes) {
         Ok(Arrived { connection, item }) => brought(connection, &item),
@@ -121,6 +124,7 @@ pub fn delivers(bus: &mut Bus, at: End, takes: bool) -> Seen {
     }
 }
 
+/// A request that was delivered to a side is answered with this result.
 pub fn replies(rt: &impl Abort, bus: &mut Bus, k: u64, side: Side, asked: Asked, code: u8) -> Seen {
     bus.reply(k, side, &asked, code, &[9]).expect(rt, "memory");
     Seen::Done
