@@ -13,13 +13,7 @@ use crate::payloads::{asks_control, kind};
 use gb_base::{Bytes, Outcome, SequenceStep};
 use gb_manifest::{Refused, check};
 use gb_payload::control_kinds::GET_MANIFEST_SIZE;
-use gb_payload::{ControlReply, SvcReply};
-
-/// The result byte of success (Greybus Specification, "Operation Status Values").
-const SUCCESS: u8 = 0;
-
-/// The type of a module that speaks Greybus.
-const GREYBUS: u8 = 3;
+use gb_payload::{ControlReply, GREYBUS, SUCCESS, SvcReply};
 
 /// The payload of an answer of success.
 pub fn payload_in(outcome: Outcome) -> Option<Bytes>
@@ -53,10 +47,10 @@ fn is_svc_reply(reply: SvcReply) -> bool
     ensures { result ≡ is_svc_reply (Ok (svc_reply_of reply)) }
 {
     match reply {
-        SvcReply::VsysEnable { result } => result == 0,
-        SvcReply::RefclkEnable { result } => result == 0,
-        SvcReply::UniproEnable { result } => result == 0,
-        SvcReply::IntfActivate { status, kind } => status == 0 && kind == GREYBUS,
+        SvcReply::VsysEnable { result } => result == SUCCESS,
+        SvcReply::RefclkEnable { result } => result == SUCCESS,
+        SvcReply::UniproEnable { result } => result == SUCCESS,
+        SvcReply::IntfActivate { status, kind } => status == SUCCESS && kind == GREYBUS,
         _ => true,
     }
 }

@@ -12,6 +12,7 @@ ghost use Rattle.gb_manifest.specs.Walks.{placed_of};
 use crate::breach::first_place;
 use crate::descriptor::Descriptor;
 use crate::ids::Ids;
+use gb_payload::protocols::CONTROL;
 
 /// How many words of 64 marks the ids of a byte have.
 const BYTE_WORDS: usize = 4;
@@ -21,9 +22,6 @@ const GREATEST_CPORT: usize = 4_095;
 
 /// How many words of 64 marks the ids of CPorts have.
 const CPORT_WORDS: usize = 64;
-
-/// The protocol of Control.
-const CONTROL: u8 = 0;
 
 /// The interfaces.
 #[derive(Drop)]

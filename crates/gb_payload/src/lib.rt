@@ -20,5 +20,5 @@ pub use payload_fault::PayloadFault;
 pub use reading::{Fields, mismatch};
 pub use results::{INVALID, NONEXISTENT, OVERFLOW, PROTOCOL_BAD, RETRY, SUCCESS, fault_result};
 pub use svc_ask::SvcAsk;
-pub use svc_reply::SvcReply;
+pub use svc_reply::{GREYBUS, SvcReply};
 pub use writing::{Field, put};

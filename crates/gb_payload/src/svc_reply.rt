@@ -18,6 +18,10 @@ use crate::svc_kinds::{
 use crate::{PayloadFault, mismatch, put, read_record};
 use gb_base::NoRoom;
 
+/// The type of an interface that speaks Greybus (in Linux's greybus_protocols.h
+/// `GB_SVC_INTF_TYPE_GREYBUS`).
+pub const GREYBUS: u8 = 0x03;
+
 /// A response of the SVC protocol (Greybus Specification, "SVC Protocol"), in the order
 /// of the requests.
 #[derive(Clone, Copy, PartialEq, Eq)]
@@ -53,7 +57,7 @@ pub enum SvcReply {
     IntfActivate {
         /// The status, 0 for success.
         status: u8,
-        /// The type of the interface, 3 for one that speaks Greybus.
+        /// The type of the interface, `GREYBUS` for one that speaks it.
         kind: u8,
     },
     /// The version that is taken.

@@ -7,6 +7,7 @@ ghost use Rattle.gb_formats.specs.Texts.{answer_text};
 use crate::digits::{Digits, Hex};
 use crate::part::{Part, parts};
 use gb_base::{Bytes, End, LineReason, OutOfMemory, Outcome, RawFault, Reading, WireFault};
+use gb_payload::SUCCESS;
 
 /// An end, shown as `svc`, `ap A` or `I C`.
 impl Part for End {
@@ -119,11 +120,15 @@ impl Part for Outcome {
     }
 }
 
-/// The bytes of an answer that are shown: its payload counts only where the result is 0.
+/// The bytes of an answer that are shown: its payload counts only where the result is success.
 fn answer_of(code: u8, payload: &Bytes) -> &[u8]
     ensures { hex_text result.now ≡ answer_text code payload.now }
 {
-    if code == 0 { payload.items() } else { &[] }
+    if code == SUCCESS {
+        payload.items()
+    } else {
+        &[]
+    }
 }
 
 /// What an answer says, shown behind it.

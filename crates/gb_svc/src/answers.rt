@@ -10,11 +10,8 @@ ghost use Rattle.gb_switch.specs.Climbing.{told};
 
 use crate::SvcServed;
 use arrayvec::ArrayVec;
-use gb_payload::{SUCCESS, SvcReply};
+use gb_payload::{GREYBUS, SUCCESS, SvcReply};
 use gb_switch::Rung;
-
-/// The type of an interface that speaks Greybus.
-const GREYBUS: u8 = 3;
 
 /// The answer of success.
 pub fn answer(reply: &SvcReply) -> SvcServed
