@@ -42,7 +42,7 @@ use Rattle.gb_machine.specs.Wiring.{attached, detached, next_connection, shut_do
 use Rattle.gb_system.proofs.Doings.{does-as, does-change, does-is, does-on_bus, does-then}
 use Rattle.gb_system.proofs.HoldMarks.{unmarked-alike}
 use Rattle.gb_system.proofs.Holdings.{stand-lost}
-use Rattle.gb_system.proofs.Standing.{rebussed, rehosted, repast, same-sound}
+use Rattle.gb_system.proofs.Standing.{rebussed, reheld, rehosted, remarked, repast}
 use Rattle.gb_system.specs.Acting.{makes, tells_of}
 use Rattle.gb_system.specs.Doing.{Does}
 use Rattle.gb_system.specs.Held.{HoldsAs, MarksAs}
@@ -100,22 +100,12 @@ pub unwire-done : {x : Parties} {s : State} {a b : List Entry} (y : Bus) (holds 
 unwire-done {x} {s} {a} {b} y holds held k now st ends marks lost appended =
     does-is (with_unwired k s) (map disconnected_told (open_on k side.Far s.bus))
     (unwires-is k s) (appended ∙ ap (λ ns. a ++ map disconnected_told ns) ends.ended)
-    (record {
-      bus = subst (λ ls. bus.Stands (bus.around_of ls (names_of s)) y (unwired k s.bus))
-          (held-elsewhere k s.held) ends.stands;
-      ports = st.ports;
-      modules = st.modules;
-      loads = st.loads;
-      host = st.host;
-      names = st.names;
-      apart = st.apart;
-      booted = st.booted;
-      sound = same-sound s.bus (unwired k s.bus) refl st.sound;
-      short = st.short;
-      time = st.time;
-      holds = unmarked-alike x.holds holds s.holds k marks st.holds;
-      held = stand-lost s.bus.requests s.held k st.held lost;
-    })
+    (remarked holds (without (λ (j : ℕ). j == k) s.holds)
+    (reheld [] y (unwired k s.bus) held (without (λ (h : Held). h.connection == k) s.held) st
+    (subst (λ ls. bus.Stands (bus.around_of ls (names_of s)) y (unwired k s.bus))
+    (held-elsewhere k s.held) ends.stands)
+    refl (stand-lost s.bus.requests s.held k st.requests.held lost))
+    (unmarked-alike x.holds holds s.holds k marks st.rest.holds))
 
 -- ---- a sequence fails
 

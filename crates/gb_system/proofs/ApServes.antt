@@ -212,7 +212,8 @@ label-says : {x : Parties} {s : State} {at : End} {k : ℕ} {asked : Asked} {pay
     (d : IsDelivered at k asked payload s c item)
     → PartsStand loose x s → (asked.label == 0) ≡ d.request.oneway
 label-says {s = s} {item = item} d st =
-    ap (λ l. l == 0) d.names.label ∙ (request-sound s.bus item d.request st.sound d.is).label
+    ap (λ l. l == 0) d.names.label
+    ∙ (request-sound s.bus item d.request st.requests.sound d.is).label
 
 -- what the code's application processor answered is what the machine's does
 is-served : {s : State} {at : End} {k : ℕ} {asked : Asked} {payload : List ℕ}

@@ -15,10 +15,12 @@ use Rattle.gb_base.specs.declared.reasons.RawFault.{RawFault}
 use Rattle.gb_base.specs.declared.outcome.Outcome.{Outcome}
 use Rattle.gb_base.specs.declared.outcome.Outcome.TheVariants as outcome
 use Rattle.gb_base.specs.declared.refusal.Refusal.TheVariants as why
-use Rattle.gb_bus.specs.Delivering.{ArrivesAnswer, ArrivesBadRaw, ArrivesDropped, ArrivesLabelled}
-use Rattle.gb_bus.specs.Delivering.{ArrivesLate, ArrivesLateLabel, ArrivesUnknown, DeliversNothing}
-use Rattle.gb_bus.specs.Delivering.{DeliversNowhere}
+use Rattle.gb_bus.specs.Delivering.{ArrivesAnswer, ArrivesLabelled, Brings, Delivers}
+use Rattle.gb_bus.specs.Delivering.{DeliversNothing, DeliversNowhere}
 use Rattle.gb_bus.specs.Stands as bus
+use Rattle.gb_bus.specs.declared.answers.Arrival.{Arrival}
+use Rattle.gb_bus.specs.declared.answers.Arrival.TheVariants as arrival
+use Rattle.gb_bus.specs.declared.answers.Arrived.{Arrived}
 use Rattle.gb_bus.specs.declared.bus.Bus.{Bus}
 use Rattle.gb_invariants.proofs.Numbers.{found-by_number}
 use Rattle.gb_invariants.proofs.Awaiting.{is_of-is, same-some}
@@ -26,6 +28,7 @@ use Rattle.gb_invariants.proofs.Drawing.{open_with-in_use}
 use Rattle.gb_invariants.proofs.ItemChanges.{first-in}
 use Rattle.gb_invariants.proofs.Outcomes.{both-true}
 use Rattle.gb_invariants.proofs.Places.{place-is}
+use Rattle.gb_invariants.specs.Facts.{Loose}
 use Rattle.gb_laws.proofs.runs.Reached.{reached-ended, reached-far}
 use Rattle.gb_machine.proofs.Opened.{machine_opened}
 use Rattle.gb_machine.proofs.Steps.{deliver-allowed, delivers-by_number, delivers-drops}
@@ -33,7 +36,8 @@ use Rattle.gb_machine.proofs.Steps.{delivers-late, with_bus}
 use Rattle.gb_machine.specs.Actions.{tell, ◌▸◌}
 use Rattle.gb_machine.specs.Arriving.{delivers, dropped, reading_at, reading_for, takes, ends}
 use Rattle.gb_machine.specs.Arriving.{ends_answered, forgets}
-use Rattle.gb_machine.specs.Bus.{Connection, Item, Place, Reply, Request, connection_of, end_of}
+use Rattle.gb_machine.specs.Bus as machine
+use Rattle.gb_machine.specs.Bus.{Connection, Place, Reply, Request, connection_of, end_of}
 use Rattle.gb_machine.specs.Bus.{is_open, place_of, queue, request_of}
 use Rattle.gb_machine.specs.Delivery.{answered, ended, forgotten, popped}
 use Rattle.gb_machine.specs.Events.{does}
@@ -130,8 +134,6 @@ nothing-here s at y st there h = record {
   stand = rebussed [] y s.bus st h.stands refl;
 }
 
--- ---- what was taken
-
 -- what a delivery does as an event
 pub does-deliver : (at : End) (s : State) → does (event.Deliver at) s ≡ delivers at s
 unfolding machine_opened
@@ -193,166 +195,196 @@ EndsThere s at y p x z over kind result payload read a b =
 
 -- ---- what comes of the front message
 
-module _ (x : Parties) (s : State) (st : PartiesStand x s) (at : End)
-    (there : false ≡ is_end_unplugged at s) (p : Place)
-    (named : place_of at s.bus.connections ≡ Some p) (item : Item)
-    (front : first (queue p.side p.connection) ≡ Some item) where
+-- whether an end takes what comes there, as the code tells it
+abbrev pub TakesAt : Parties → End → Bool → Type 0
+TakesAt x at takes_it = (loose : List Loose) (s : State) (p : Place) → PartsStand loose x s
+    → place_of at s.bus.connections ≡ Some p → side_of at ≡ p.side
+    → takes_it ≡ takes p.side p.connection s
+
+module _ {x : Parties} {s : State} (st : PartiesStand x s) {at : End}
+    (there : false ≡ is_end_unplugged at s) {y : Bus} {takes_it : Bool} {arrived : Arrived}
+    (m : Delivers (around_bus [] s) y at takes_it s.bus arrived)
+    (told_so : TakesAt x at takes_it) where
+  abbrev place : Place
+  place = m.place
+
+  pub found-there : IsThere s at m.place
+  found-there = is-there x s at place st m.named
+
+  -- the end takes it or doesn't, as the code found
+  pub takes-as : (t : Bool) → takes_it ≡ t → takes m.place.side m.place.connection s ≡ t
+  takes-as t is = sym (told_so [] s place st.parts m.named found-there.side) ∙ is
+
+  -- what it brings
+  pub brought : (w : Arrival) → arrived.item ≡ w
+      → Brings (around_bus [] s) y takes_it m.place s.bus m.item w
+  brought w is = subst (Brings (around_bus [] s) y takes_it place s.bus m.item) is m.brings
+
+  -- the bus once it is taken from its queue
+  abbrev emptied : machine.Bus
+  emptied = popped place.connection.number place.side s.bus
+
   -- its delivery isn't refused
   pub delivered-here : {z : Parties} {a b : List Entry} → Does z (delivers at) s a b
       → IsDone z s (event.Deliver at) a b
   delivered-here d = record {
-    allowed = deliver-allowed s at p item (sym there) named front;
+    allowed = deliver-allowed s at place m.item (sym there) m.named m.front;
     done = does-as (sym (does-deliver at s)) d;
   }
 
+  -- what is told of it is known, and the bus after it
+  told-here : {a b : List Entry} (after : machine.Bus) (e : Entry)
+      → delivers at s ≡ record { state = with_bus after s; entries = e ∷ [] }
+      → bus.Stands (around_bus [] s) y after → after.requests ≡ s.bus.requests
+      → b ≡ a ++ e ∷ [] → IsDone (record x { bus = y }) s (event.Deliver at) a b
+  told-here after e is stands same pushed =
+      delivered-here
+      (does-is (with_bus after s) (e ∷ []) is pushed (rebussed [] y after st.parts stands same))
+
+  -- an answer by its number, on a clean connection
+  answer-is : takes place.side place.connection s ≡ true → (n result : ℕ) (bytes : List ℕ)
+      → m.item ≡ Reply n result bytes → place.connection.clean ≡ true → is_open n s.bus ≡ true
+      → delivers at s ≡ ends_answered place.side place.connection n result bytes
+      (taken_state s place)
+  unfolding machine_opened
+  answer-is taken n result bytes is clean unanswered =
+      delivers-by_number s at place n result bytes m.named (m.front ∙ ap Some is) taken clean
+      ∙ ap (λ b. (if b then ends_answered place.side place.connection n result bytes
+      else forgets n (entry.Late n)) (taken_state s place)) unanswered
+
   -- it ended a request
-  ended-here : {z : Parties} {a b : List Entry} (y : Bus) (over : Over) (kind result : ℕ)
-      (payload : List ℕ) (read : Reading) → IsEnded s at y p over.number kind result payload
-      → EndsThere s at y p x z over kind result payload read a b
-  ended-here y over kind result payload read h on side reads ends =
+  ended-here : {z : Parties} {a b : List Entry} (over : Over) (kind result : ℕ)
+      (payload : List ℕ) (read : Reading) → IsEnded s at y place over.number kind result payload
+      → EndsThere s at y place x z over kind result payload read a b
+  ended-here over kind result payload read h on side reads ends =
       let n = over.number in
-      let w = is-there x s at p st named in
       let how = answered h.code h.bytes in
-      let t = with_bus (ended n how (popped p.connection.number p.side s.bus)) s in
+      let t = with_bus (ended n how emptied) s in
       let stand = rebussed [] y t.bus st.parts h.stands refl in
-      let may : MayFollow n how t = reached-ended s n how p.connection.number p.side st.run in
+      let may : MayFollow n how t =
+      reached-ended s n how place.connection.number place.side st.run in
       let is : IsOver over t = record {
         request = h.request;
         made = h.made;
         on = h.own.0 ∙ sym on;
-        side = sym h.own.1 ∙ sym w.side ∙ sym side;
+        side = sym h.own.1 ∙ sym found-there.side ∙ sym side;
       } in
       let both : outcome.Answered h.code (if h.code == 0 then h.bytes else [])
       ≡ outcome.Answered result payload = h.outcome_is in
       let code_is : result ≡ h.code = cc in
       let same : payload ≡ (if h.code == 0 then h.bytes else []) = cc in
-      let says : read ≡ reading_at p.side p.connection h.request.kind h.code h.bytes =
+      let says : read ≡ reading_at place.side place.connection h.request.kind h.code h.bytes =
       reads t stand refl
-      ∙ ap (λ d. reading_at d p.connection kind result payload) w.side
-      ∙ ap (λ k. reading_at p.side p.connection k result payload) h.kind_is
-      ∙ ap (λ r. reading_at p.side p.connection h.request.kind r payload) code_is
-      ∙ reading-same p.side p.connection h.request.kind h.code h.bytes payload same in
+      ∙ ap (λ d. reading_at d place.connection kind result payload) found-there.side
+      ∙ ap (λ k. reading_at place.side place.connection k result payload) h.kind_is
+      ∙ ap (λ r. reading_at place.side place.connection h.request.kind r payload) code_is
+      ∙ reading-same place.side place.connection h.request.kind h.code h.bytes payload same in
       let done = ends t stand is (subst (λ (o : Outcome). MayFollow n o t) h.outcome_is may) in
       delivered-here
       (does-as (ap (λ (o : Outcome). (tell (entry.Ended n o read) ▸ follows n o) t)
       (sym h.outcome_is)
       ∙ ap (λ v. (tell (entry.Ended n how v) ▸ follows n how) t) says
-      ∙ sym (h.is ∙ ends-is s p n h.code h.bytes h.request h.made)) done)
+      ∙ sym (h.is ∙ ends-is s place n h.code h.bytes h.request h.made)) done)
 
-  -- it is dropped
-  pub dropped-here : {a b : List Entry} (y : Bus) (number : Option ℕ) (reply : Bool)
-      → takes p.side p.connection s ≡ false
-      → ArrivesDropped (around_bus [] s) y p s.bus item number reply
-      → b ≡ a ++ entry.Dropped number reply ∷ []
+  -- an answer ends it by its number, or by its identifier
+  answer-ends : {z : Parties} {a b : List Entry} (over : Over) (kind result : ℕ)
+      (payload : List ℕ) (read : Reading) → takes place.side place.connection s ≡ true
+      → ArrivesAnswer (around_bus [] s) y place s.bus m.item over.number kind result payload
+      ⊎ ArrivesLabelled (around_bus [] s) y place s.bus m.item over.number kind result payload
+      → EndsThere s at y place x z over kind result payload read a b
+  answer-ends over kind result payload read taken (inl h) =
+      ended-here over kind result payload read (record {
+        code = result;
+        bytes = h.bytes;
+        request = h.request;
+        made = h.made;
+        own =
+            let waits = subst (λ i. IsIn i (queue place.side place.connection)) h.item_is
+            (first-in (queue place.side place.connection) m.item m.front) in
+            let o = st.parts.bus.facts.fits.items.own place.connection place.side
+            (Reply over.number result h.bytes) found-there.live waits in
+            let same = same-some h.request o.0 (sym h.made ∙ o.1) in (
+              ap (λ (r : Request). r.connection) same ∙ o.2,
+              sym (ap (λ (r : Request). r.side) same ∙ o.3),
+            );
+        kind_is = h.kind_is;
+        outcome_is = h.outcome_is;
+        stands = h.stands;
+        is = answer-is taken over.number result h.bytes h.item_is h.clean h.still_open;
+      })
+  answer-ends over kind result payload read taken (inr h) =
+      let k = place.connection.number in
+      let o = open_with-in_use k place.side h.came.label emptied over.number h.found in
+      let same = same-some h.request o.0 (sym h.made ∙ o.1) in
+      let of = is_of-is k place.side o.0
+      (both-true (is_of k place.side o.0) (o.0.label == h.came.label) o.2).0 in
+      ended-here over kind result payload read (record {
+        code = h.came.result;
+        bytes = h.came.payload;
+        request = h.request;
+        made = h.made;
+        own = (
+          ap (λ (r : Request). r.connection) same ∙ of.0,
+          of.1 ∙ sym (ap (λ (r : Request). r.side) same),
+        );
+        kind_is = h.kind_is;
+        outcome_is = h.outcome_is;
+        stands = h.stands;
+        is = by_label-opens s at place m.item h.came over.number m.named m.front taken h.is h.found;
+      })
+
+  pub answer-here : {z : Parties} {a b : List Entry} (over : Over) (kind result : ℕ)
+      (payload : List ℕ) (read : Reading)
+      → arrived.item ≡ arrival.Ended over.number kind result payload
+      → EndsThere s at y m.place x z over kind result payload read a b
+  answer-here over kind result payload read is =
+      let h = brought (arrival.Ended over.number kind result payload) is in
+      answer-ends over kind result payload read (takes-as true h.0) h.1
+
+  -- ---- it is dropped, late or unknown, or bytes are bad
+
+  pub dropped-here : {a b : List Entry} (number : Option ℕ) (reply : Bool)
+      → arrived.item ≡ arrival.Dropped number reply → b ≡ a ++ entry.Dropped number reply ∷ []
       → IsDone (record x { bus = y }) s (event.Deliver at) a b
-  dropped-here {a} y number reply untaken h pushed =
-      delivered-here
-      (does-is (taken_state s p) (dropped item ∷ [])
-      (delivers-drops s at p item named front untaken)
-      (pushed ∙ ap (λ e. a ++ e ∷ []) h.told)
-      (rebussed [] y (popped p.connection.number p.side s.bus) st.parts h.stands refl))
+  dropped-here {a} number reply is pushed =
+      let h = brought (arrival.Dropped number reply) is in
+      told-here emptied (dropped m.item)
+      (delivers-drops s at place m.item m.named m.front (takes-as false h.0)) h.1.stands refl
+      (pushed ∙ ap (λ e. a ++ e ∷ []) h.1.told)
 
-  module _ (taken : takes p.side p.connection s ≡ true) where
-    -- an answer by its number, on a clean connection
-    answer-is : (n result : ℕ) (bytes : List ℕ) → item ≡ Reply n result bytes
-        → p.connection.clean ≡ true → is_open n s.bus ≡ true
-        → delivers at s ≡ ends_answered p.side p.connection n result bytes (taken_state s p)
-    unfolding machine_opened
-    answer-is n result bytes is clean unanswered =
-        delivers-by_number s at p n result bytes named (front ∙ ap Some is) taken clean
-        ∙ ap (λ b. (if b then ends_answered p.side p.connection n result bytes
-        else forgets n (entry.Late n)) (taken_state s p)) unanswered
+  pub late-here : {a b : List Entry} (n : ℕ) → arrived.item ≡ arrival.Late n
+      → b ≡ a ++ entry.Late n ∷ [] → IsDone (record x { bus = y }) s (event.Deliver at) a b
+  late-here n is =
+      let h = brought (arrival.Late n) is in
+      told-here (forgotten n emptied) (entry.Late n)
+      (delivers-late s at place n h.1.result h.1.bytes m.named (m.front ∙ ap Some h.1.item_is)
+      (takes-as true h.0) h.1.clean h.1.closed) h.1.stands refl
 
-    -- or by its identifier
-    pub answer-here : {z : Parties} {a b : List Entry} (y : Bus) (over : Over) (kind result : ℕ)
-        (payload : List ℕ) (read : Reading)
-        → ArrivesAnswer (around_bus [] s) y p s.bus item over.number kind result payload
-        ⊎ ArrivesLabelled (around_bus [] s) y p s.bus item over.number kind result payload
-        → EndsThere s at y p x z over kind result payload read a b
-    answer-here y over kind result payload read (inl h) =
-        ended-here y over kind result payload read (record {
-          code = result;
-          bytes = h.bytes;
-          request = h.request;
-          made = h.made;
-          own =
-              let live = (is-there x s at p st named).live in
-              let waits = subst (λ i. IsIn i (queue p.side p.connection)) h.item_is
-              (first-in (queue p.side p.connection) item front) in
-              let o = st.parts.bus.facts.fits.items.own p.connection p.side
-              (Reply over.number result h.bytes) live waits in
-              let same = same-some h.request o.0 (sym h.made ∙ o.1) in (
-                ap (λ (r : Request). r.connection) same ∙ o.2,
-                sym (ap (λ (r : Request). r.side) same ∙ o.3),
-              );
-          kind_is = h.kind_is;
-          outcome_is = h.outcome_is;
-          stands = h.stands;
-          is = answer-is over.number result h.bytes h.item_is h.clean h.still_open;
-        })
-    answer-here y over kind result payload read (inr h) =
-        let o = open_with-in_use p.connection.number p.side h.came.label
-        (popped p.connection.number p.side s.bus) over.number h.found in
-        let same = same-some h.request o.0 (sym h.made ∙ o.1) in
-        let of = is_of-is p.connection.number p.side o.0 (both-true (is_of p.connection.number
-        p.side o.0) (o.0.label == h.came.label) o.2).0 in
-        ended-here y over kind result payload read (record {
-          code = h.came.result;
-          bytes = h.came.payload;
-          request = h.request;
-          made = h.made;
-          own = (
-            ap (λ (r : Request). r.connection) same ∙ of.0,
-            of.1 ∙ sym (ap (λ (r : Request). r.side) same),
-          );
-          kind_is = h.kind_is;
-          outcome_is = h.outcome_is;
-          stands = h.stands;
-          is = by_label-opens s at p item h.came over.number named front taken h.is h.found;
-        })
+  pub late_label-here : {a b : List Entry} (label : ℕ) → arrived.item ≡ arrival.LateLabel label
+      → b ≡ a ++ entry.LateLabel label ∷ []
+      → IsDone (record x { bus = y }) s (event.Deliver at) a b
+  late_label-here label is =
+      let h = brought (arrival.LateLabel label) is in
+      told-here (forgotten h.1.number emptied) (entry.LateLabel label)
+      (by_label-late s at place m.item h.1.came label h.1.number m.named m.front
+      (takes-as true h.0) h.1.is h.1.label_is h.1.unopened h.1.found) h.1.stands refl
 
-    -- ---- an answer that is late or unknown, and bytes that are bad
+  pub unknown-here : {a b : List Entry} (label : ℕ) → arrived.item ≡ arrival.UnknownLabel label
+      → b ≡ a ++ entry.UnknownLabel label ∷ []
+      → IsDone (record x { bus = y }) s (event.Deliver at) a b
+  unknown-here label is =
+      let h = brought (arrival.UnknownLabel label) is in
+      told-here emptied (entry.UnknownLabel label)
+      (by_label-unknown s at place m.item h.1.came label m.named m.front (takes-as true h.0) h.1.is
+      h.1.label_is h.1.unopened h.1.kept) h.1.stands refl
 
-    pub late-here : {a b : List Entry} (y : Bus) (n : ℕ)
-        → ArrivesLate (around_bus [] s) y p s.bus item n → b ≡ a ++ entry.Late n ∷ []
-        → IsDone (record x { bus = y }) s (event.Deliver at) a b
-    late-here y n h pushed =
-        let after = forgotten n (popped p.connection.number p.side s.bus) in
-        delivered-here
-        (does-is (with_bus after s) (entry.Late n ∷ [])
-        (delivers-late s at p n h.result h.bytes named (front ∙ ap Some h.item_is) taken h.clean
-        h.closed) pushed (rebussed [] y after st.parts h.stands refl))
-
-    pub late_label-here : {a b : List Entry} (y : Bus) (label : ℕ)
-        → ArrivesLateLabel (around_bus [] s) y p s.bus item label
-        → b ≡ a ++ entry.LateLabel label ∷ []
-        → IsDone (record x { bus = y }) s (event.Deliver at) a b
-    late_label-here y label h pushed =
-        let after = forgotten h.number (popped p.connection.number p.side s.bus) in
-        delivered-here
-        (does-is (with_bus after s) (entry.LateLabel label ∷ [])
-        (by_label-late s at p item h.came label h.number named front taken h.is h.label_is
-        h.unopened h.found) pushed (rebussed [] y after st.parts h.stands refl))
-
-    pub unknown-here : {a b : List Entry} (y : Bus) (label : ℕ)
-        → ArrivesUnknown (around_bus [] s) y p s.bus item label
-        → b ≡ a ++ entry.UnknownLabel label ∷ []
-        → IsDone (record x { bus = y }) s (event.Deliver at) a b
-    unknown-here y label h pushed =
-        delivered-here
-        (does-is (taken_state s p) (entry.UnknownLabel label ∷ [])
-        (by_label-unknown s at p item h.came label named front taken h.is h.label_is h.unopened
-        h.kept) pushed
-        (rebussed [] y (popped p.connection.number p.side s.bus) st.parts h.stands refl))
-
-    pub bad-here : {a b : List Entry} (y : Bus) (fault : RawFault)
-        → ArrivesBadRaw (around_bus [] s) y p s.bus item fault → b ≡ a ++ entry.BadRaw fault ∷ []
-        → IsDone (record x { bus = y }) s (event.Deliver at) a b
-    bad-here y fault h pushed =
-        delivered-here
-        (does-is (taken_state s p) (entry.BadRaw fault ∷ [])
-        (delivers-bad s at p h.bytes fault named (front ∙ ap Some h.item_is) taken h.fault_is)
-        pushed (rebussed [] y (popped p.connection.number p.side s.bus) st.parts h.stands refl))
+  pub bad-here : {a b : List Entry} (fault : RawFault) → arrived.item ≡ arrival.BadRaw fault
+      → b ≡ a ++ entry.BadRaw fault ∷ [] → IsDone (record x { bus = y }) s (event.Deliver at) a b
+  bad-here fault is =
+      let h = brought (arrival.BadRaw fault) is in
+      told-here emptied (entry.BadRaw fault)
+      (delivers-bad s at place h.1.bytes fault m.named (m.front ∙ ap Some h.1.item_is)
+      (takes-as true h.0) h.1.fault_is) h.1.stands refl
 
 -- ---- what answers say
 

@@ -7,8 +7,10 @@ use Rattle.gb_base.specs.declared.end.Side.TheVariants as side
 use Rattle.gb_base.specs.declared.entry.Entry.{Entry}
 use Rattle.gb_base.specs.declared.event.Event.TheVariants as event
 use Rattle.gb_base.specs.declared.host_event.HostEvent.{HostEvent}
-use Rattle.gb_bus.specs.Delivering.{ArrivesAsk}
+use Rattle.gb_bus.specs.Delivering.{Delivers}
 use Rattle.gb_bus.specs.Wiring.{ends_of}
+use Rattle.gb_bus.specs.declared.answers.Arrival.TheVariants as arrival
+use Rattle.gb_bus.specs.declared.answers.Arrived.{Arrived}
 use Rattle.gb_bus.specs.declared.answers.Asked.{Asked}
 use Rattle.gb_bus.specs.declared.bus.Bus.{Bus}
 use Rattle.gb_base.specs.declared.reasons.RawFault.{RawFault}
@@ -20,7 +22,7 @@ use Rattle.gb_invariants.proofs.Found.{find-changed}
 use Rattle.gb_machine.proofs.Opened.{machine_opened}
 use Rattle.gb_machine.proofs.Steps.{delivers-arrives}
 use Rattle.gb_machine.specs.Actions.{given}
-use Rattle.gb_machine.specs.Arriving.{arrives, asked_at, by_label, raw_taken, takes}
+use Rattle.gb_machine.specs.Arriving.{arrives, asked_at, by_label, raw_taken}
 use Rattle.gb_machine.specs.Bus.{Ask, Connection, Item, Place, Raw, RawReply, Reply, Request}
 use Rattle.gb_machine.specs.Bus.{connection_of, end_of, has_number, place_of, queue, request_of}
 use Rattle.gb_machine.specs.Delivery.{popped, without_front}
@@ -39,7 +41,7 @@ use Rattle.gb_system.specs.Holding.{AsksAt}
 use Rattle.gb_system.specs.Serving.{IsDelivered, MayServe, only, side_of, MayNotice, after_serving}
 use Rattle.gb_system.specs.Stands.{PartiesStand, PartsStand, around_bus}
 use Rattle.gb_system.specs.declared.parties.Parties.{Parties}
-use Rattle.gb_system.proofs.Arrivals.{delivered-here, is-there}
+use Rattle.gb_system.proofs.Arrivals.{TakesAt, brought, delivered-here, found-there, takes-as}
 use Rattle.gb_system.proofs.RawArrivals.{taken_state}
 
 -- ---- a request
@@ -122,40 +124,42 @@ arrives-asks at c (Raw bytes) q t is = by (raw_message bytes) is
 arrives-asks at c (Reply n result payload) q t is = absurd cc
 arrives-asks at c (RawReply label kind result payload) q t is = absurd cc
 
-pub ask-here : {x z : Parties} {a b : List Entry} (s : State) (at : End) (y : Bus) (p : Place)
-    (k : ℕ) (item : Item) (asked : Asked) (payload bytes : List ℕ)
-    → PartiesStand x s → false ≡ is_end_unplugged at s → place_of at s.bus.connections ≡ Some p
-    → first (queue p.side p.connection) ≡ Some item → takes p.side p.connection s ≡ true
-    → k ≡ p.connection.number → bytes ≡ payload
-    → ArrivesAsk (around_bus [] s) y p s.bus item asked payload
-    → AsksAt at (record x { bus = y }) z k asked bytes a b
+pub ask-here : {x z : Parties} {s : State} {a b : List Entry} (st : PartiesStand x s) {at : End}
+    (there : false ≡ is_end_unplugged at s) {y : Bus} {takes_it : Bool} {arrived : Arrived}
+    (m : Delivers (around_bus [] s) y at takes_it s.bus arrived) (told_so : TakesAt x at takes_it)
+    (asked : Asked) (payload : List ℕ) → arrived.item ≡ arrival.Ask asked payload
+    → AsksAt at (record x { bus = y }) z arrived.connection asked payload a b
     → IsDone z s (event.Deliver at) a b
-ask-here {x} {z} {a} {b} s at y p k item asked payload bytes st there named front taken number
-    same h serve =
-    let w = is-there x s at p st named in
+ask-here {x} {z} {s} {a} {b} st {at} there {y} {takes_it} {arrived} m told_so asked payload brings
+    serve =
+    let p = m.place in
+    let w = found-there st there m told_so in
+    let o = brought st there m told_so (arrival.Ask asked payload) brings in
+    let h = o.1 in
     let t = taken_state s p in
     let c = p.connection in
     let q = h.request in
-    let is = request-taken p item s ∙ h.is in
-    let stand : PartsStand (only c.number p.side item) (record x { bus = y }) t =
-    rebussed (only c.number p.side item) y t.bus st.parts h.stands
+    let is = request-taken p m.item s ∙ h.is in
+    let stand : PartsStand (only c.number p.side m.item) (record x { bus = y }) t =
+    rebussed (only c.number p.side m.item) y t.bus st.parts h.stands
     refl in
-    let delivered : IsDelivered at k asked bytes t c item = record {
+    let delivered : IsDelivered at arrived.connection asked payload t c m.item = record {
       request = q;
       is = is;
       names = h.names;
-      payload_is = same ∙ h.payload_is;
-      upon = subst (λ j. IsUpon j t.bus c) (sym number) (upon-taken s p w.found);
+      payload_is = h.payload_is;
+      upon = subst (λ j. IsUpon j t.bus c) (sym m.connection) (upon-taken s p w.found);
       there = ap (λ d. end_of d c) w.side ∙ w.is;
-      numbered = λ far. reached-front s c item q st.run w.live
-          (ap (λ d. first (queue d c)) (sym far ∙ w.side) ∙ front) h.is;
+      numbered = λ far. reached-front s c m.item q st.run w.live
+          (ap (λ d. first (queue d c)) (sym far ∙ w.side) ∙ m.front) h.is;
     } in
-    let done = serve t c item delivered
-    (subst (λ j. PartsStand (only j (side_of at) item) (record x { bus = y }) t) (sym number)
-    (subst (λ d. PartsStand (only c.number d item) (record x { bus = y }) t) (sym w.side) stand))
+    let done = serve t c m.item delivered
+    (subst (λ j. PartsStand (only j (side_of at) m.item) (record x { bus = y }) t)
+    (sym m.connection)
+    (subst (λ d. PartsStand (only c.number d m.item) (record x { bus = y }) t) (sym w.side) stand))
     (subst (λ d. MayServe d c q t) (sym w.side)
-    (may-serve s at p item q st.run named front h.is)) in
-    delivered-here x s st at there p named item front
-    (does-as (ap (λ d. asked_at d c item q t) w.side
-    ∙ sym (delivers-arrives s at p item named front taken ∙ arrives-asks p.side c item q t is))
-    done)
+    (may-serve s at p m.item q st.run m.named m.front h.is)) in
+    delivered-here st there m told_so
+    (does-as (ap (λ d. asked_at d c m.item q t) w.side
+    ∙ sym (delivers-arrives s at p m.item m.named m.front
+    (takes-as st there m told_so true o.0) ∙ arrives-asks p.side c m.item q t is)) done)

@@ -218,8 +218,9 @@ ask-made {x} {s} {a} {b} y d ends r st askable twoway has sends appended =
     let on = is-on d s.bus ends r.label has sends.label in
     let c = on.connection in
     let stands = requested-more [] y (sent d r.label s.bus) st sends.stands (record {
-      sound = sound-sent d s.bus r.label st.sound askable twoway on.drawn;
-      held = held-stand-more s.bus.requests (requested d r.label) x.held s.held st.held;
+      sound = sound-sent d s.bus r.label st.requests.sound askable twoway on.drawn;
+      held =
+          held-stand-more s.bus.requests (requested d r.label) x.held s.held st.requests.held;
     }) in
     let k = does-given (on_connection d s) c on.live
     (does-given (λ label. asks_with d c label) r.label on.drawn

@@ -18,7 +18,8 @@ use Rattle.gb_machine.specs.Plugging.{tells_inserted}
 use Rattle.gb_machine.specs.State.{Plugged, State}
 use Rattle.gb_system.proofs.Doings.{does-by_state, does-change, does-then}
 use Rattle.gb_system.proofs.Midways.{Midway, each-cons, each-nil, midway-as, midway-end}
-use Rattle.gb_system.proofs.Midways.{midway-more}
+use Rattle.gb_system.proofs.Midways.{midway-first, midway-more}
+use Rattle.gb_system.proofs.Standing.{rested}
 use Rattle.gb_laws.specs.Possible.{IsAskable}
 use Rattle.gb_system.specs.Doing.{Does, IsDone, IsRefused}
 use Rattle.gb_system.specs.Drafts.{own_ask}
@@ -52,25 +53,6 @@ greets-modules s =
     (far_asks 1 (svc_own (SvcAsk.ProtocolVersion 0 1)) (started s)).state
     ∙ far_asks-modules 1 (svc_own (SvcAsk.ProtocolVersion 0 1)) (started s)
 
--- the parties stand for it
-started-stand : (x : Parties) (s : State) → PartsStand [] x s
-    → PartsStand [] (record x { booted = true }) (started s)
-started-stand x s st = record {
-  bus = st.bus;
-  ports = st.ports;
-  modules = st.modules;
-  loads = st.loads;
-  host = st.host;
-  names = st.names;
-  apart = st.apart;
-  booted = refl;
-  sound = st.sound;
-  short = st.short;
-  time = st.time;
-  holds = st.holds;
-  held = st.held;
-}
-
 -- a request of the supervisory controller, as the code makes it
 abbrev pub Asks : Parties → Parties → ℕ → List ℕ → List Entry → List Entry → Type 0
 Asks x y kind payload a b = (t : State) → PartsStand [] x t → IsAskable kind payload
@@ -82,9 +64,11 @@ does-greets : (x y z : Parties) (s : State) {a b c : List Entry} → PartsStand 
     → Does z greets s a c
 unfolding machine_opened greets
 does-greets x y z s st one two =
-    let first = one (started s) (started-stand x s st) (omega arith, omega arith) in
+    let begun = rested true x.time x.holds true s.now s.holds st
+    (record { booted = refl; time = st.rest.time; holds = st.rest.holds }) in
+    let first = one (started s) begun (omega arith, omega arith) in
     let second = two _ first.stand (omega arith, omega arith) in
-    does-then (does-then (does-change started (started-stand x s st)) first) second
+    does-then (does-then (does-change started begun) first) second
 
 -- ---- what is plugged is told
 
@@ -106,18 +90,6 @@ pub record IsBooting (x : Parties) (s : State) (i n : ℕ) (before told : List E
   pub modules : x.modules ≡ s.modules
   pub count : n ≡ length s.modules
 
--- the first of two actions is done
-midway-begun : {y : Parties} {s : State} {a b : List Entry} (f g : Action) → Does y f s a b
-    → Midway y (f ▸ g) g s a b
-unfolding machine_opened
-midway-begun {y} {s} f g d = record {
-  state = (f s).state;
-  entries = (f s).entries;
-  is = refl;
-  told_is = d.told_is;
-  stand = d.stand;
-}
-
 -- at first none is
 pub boot-first : (x y z : Parties) (s : State) (n : ℕ) (before b told : List Entry)
     → PartiesStand x s → Asks (record x { booted = true }) y 0x01 (0 ∷ 1 ∷ []) before b
@@ -125,11 +97,17 @@ pub boot-first : (x y z : Parties) (s : State) (n : ℕ) (before b told : List E
     → n ≡ length z.modules → IsBooting z s 0 n before told
 boot-first x y z s n before b told st one two count =
     let d = does-greets x y z s st.parts one two in
-    let modules = sym d.stand.modules ∙ greets-modules s in record {
-      midway = midway-begun greets (each (primaries s.modules) tells) d;
+    let modules = sym d.stand.plugged.modules ∙ greets-modules s in record {
+      midway =
+          midway-more greets (each (primaries s.modules) tells)
+          (midway-first (boots_at s) st.parts) d;
       modules = modules;
       count = count ∙ ap length modules;
     }
+
+-- the primary ones of parts with this one in front
+abbrev primaries_by : Bool → Plugged → List Plugged → List Plugged
+primaries_by t p ps = if t then p ∷ primaries ps else primaries ps
 
 -- the part at a place, and what is told of it
 record IsNext (ms : List Plugged) (i : ℕ) (o : Option Span) : Type 0 where
@@ -146,80 +124,65 @@ is-next (p ∷ ps) (suc i) o is within =
     record { part = r.part; is = r.is; next = r.next }
 
 -- something is told of the part at a primary interface alone
-told-primary : (p : Plugged) (m : Span) → told_span p ≡ Some m
-    → (is_primary p ≡ true) × (m ≡ span_of p)
-told-primary p m e = by (is_primary p) refl e
-  where
-    by : (t : Bool) → is_primary p ≡ t → (if t then Some (span_of p) else None) ≡ Some m
-        → (is_primary p ≡ true) × (m ≡ span_of p)
-    by true is f = (is, sym (same-some (span_of p) m f))
-    by false is f = absurd cc
+told-primary : (p : Plugged) (m : Span) (t : Bool) → is_primary p ≡ t
+    → Some m ≡ (if t then Some (span_of p) else None) → (is_primary p ≡ true) × (m ≡ span_of p)
+told-primary p m true is f = (is, same-some m (span_of p) f)
+told-primary p m false is f = absurd cc
 
-untold-other : (p : Plugged) → told_span p ≡ None → is_primary p ≡ false
-untold-other p e = by (is_primary p) refl e
-  where
-    by : (t : Bool) → is_primary p ≡ t → (if t then Some (span_of p) else None) ≡ None
-        → is_primary p ≡ false
-    by true is f = absurd cc
-    by false is f = is
+untold-other : (p : Plugged) (o : Option Span) (t : Bool) → is_primary p ≡ t
+    → o ≡ (if t then Some (span_of p) else None) → ((m : Span) → o ≡ Some m → ⊥)
+    → is_primary p ≡ false
+untold-other p o true is f none = absurd (none (span_of p) f)
+untold-other p o false is f none = is
 
-none-when : (o : Option Span) → ((m : Span) → o ≡ Some m → ⊥) → o ≡ None
-none-when None none = refl
-none-when (Some m) none = absurd (none m refl)
+module _ (x : Parties) (s : State) (i n : ℕ) {before told : List Entry} (o : Option Span)
+    (b : IsBooting x s i n before told) (within : i < n)
+    (is : o ≡ option_and_then told_span (slice_get x.modules i)) where
+  next_part : IsNext s.modules i o
+  next_part =
+      is-next s.modules i o
+      (is ∙ ap (λ ms. option_and_then told_span (slice_get ms i)) b.modules)
+      (subst (λ k. i < k) b.count within)
 
--- the primary ones of parts with this one in front
-abbrev primaries_by : Bool → Plugged → List Plugged → List Plugged
-primaries_by t p ps = if t then p ∷ primaries ps else primaries ps
+  -- whether it is told decides what is left
+  abbrev left-by : (t : Bool) → is_primary next_part.part ≡ t
+      → Midway x (boots_at s)
+      (each (primaries_by t next_part.part (drop (i + 1) s.modules)) tells) s before told
+  left-by t first =
+      midway-as (each (primaries_by t next_part.part (drop (i + 1) s.modules)) tells)
+      (ap (λ l. each l tells) (ap primaries next_part.next
+      ∙ ap (λ u. primaries_by u next_part.part (drop (suc i) s.modules)) first
+      ∙ ap (λ k. primaries_by t next_part.part (drop k s.modules)) (sym (add-one i)))) b.midway
 
-primaries-next : (ms : List Plugged) (i : ℕ) (p : Plugged) (t : Bool)
-    → drop i ms ≡ p ∷ drop (suc i) ms → is_primary p ≡ t
-    → primaries (drop i ms) ≡ primaries_by t p (drop (i + 1) ms)
-primaries-next ms i p t next is =
-    ap primaries next ∙ ap (λ u. primaries_by u p (drop (suc i) ms)) is
-    ∙ ap (λ k. primaries_by t p (drop k ms)) (sym (add-one i))
+  -- the module of one more is told
+  pub boot-more : (y : Parties) (m : Span) (more : List Entry) → o ≡ Some m
+      → ((t : State) → PartsStand [] x t → Does y (tells_inserted m.primary m.count) t told more)
+      → IsBooting y s (i + 1) n before more
+  unfolding machine_opened
+  boot-more y m more some told_so =
+      let p = next_part.part in
+      let first = told-primary p m (is_primary p) refl (sym some ∙ next_part.is) in
+      let state = b.midway.state in
+      let rest = primaries (drop (i + 1) s.modules) in
+      let d = subst (λ (k : Span). Does y (tells_inserted k.primary k.count) state told more)
+      first.1 (told_so state b.midway.stand) in record {
+        midway = midway-more (tells p) (each rest tells)
+            (midway-as (tells p ▸ each rest tells) (each-cons p rest tells)
+            (left-by true first.0)) d;
+        modules = sym d.stand.plugged.modules
+            ∙ far_asks-modules 1 (svc_own (SvcAsk.ModuleInserted p.primary p.count 0)) state
+            ∙ b.midway.stand.plugged.modules ∙ b.modules;
+        count = b.count;
+      }
 
--- the module of one more is told
-pub boot-more : (x y : Parties) (s : State) (i n : ℕ) (m : Span) {before : List Entry}
-    (told more : List Entry) (o : Option Span) → IsBooting x s i n before told → i < n
-    → o ≡ option_and_then told_span (slice_get x.modules i) → o ≡ Some m
-    → ((t : State) → PartsStand [] x t → Does y (tells_inserted m.primary m.count) t told more)
-    → IsBooting y s (i + 1) n before more
-unfolding machine_opened
-boot-more x y s i n m told more o b within is some told_so =
-    let r = is-next s.modules i o
-    (is ∙ ap (λ ms. option_and_then told_span (slice_get ms i)) b.modules)
-    (subst (λ k. i < k) b.count within) in
-    let p = r.part in
-    let first = told-primary p m (sym r.is ∙ some) in
-    let state = b.midway.state in
-    let rest = primaries (drop (i + 1) s.modules) in
-    let d = subst (λ (k : Span). Does y (tells_inserted k.primary k.count) state told more) first.1
-    (told_so state b.midway.stand) in record {
-      midway = midway-more (tells p) (each rest tells)
-          (midway-as (tells p ▸ each rest tells)
-          (ap (λ l. each l tells) (primaries-next s.modules i p true r.next first.0)
-          ∙ each-cons p rest tells) b.midway) d;
-      modules = sym d.stand.modules
-          ∙ far_asks-modules 1 (svc_own (SvcAsk.ModuleInserted p.primary p.count 0)) state
-          ∙ b.midway.stand.modules ∙ b.modules;
-      count = b.count;
-    }
-
--- one that isn't at its primary interface is passed over
-pub boot-past : (x : Parties) (s : State) (i n : ℕ) {before told : List Entry} (o : Option Span)
-    → IsBooting x s i n before told → i < n
-    → o ≡ option_and_then told_span (slice_get x.modules i)
-    → ((m : Span) → o ≡ Some m → ⊥) → IsBooting x s (i + 1) n before told
-boot-past x s i n o b within is none =
-    let r = is-next s.modules i o
-    (is ∙ ap (λ ms. option_and_then told_span (slice_get ms i)) b.modules)
-    (subst (λ k. i < k) b.count within) in
-    let other = untold-other r.part (sym r.is ∙ none-when o none) in record {
-      midway = midway-as (each (primaries (drop (i + 1) s.modules)) tells)
-          (ap (λ l. each l tells) (primaries-next s.modules i r.part false r.next other)) b.midway;
-      modules = b.modules;
-      count = b.count;
-    }
+  -- one that isn't at its primary interface is passed over
+  pub boot-past : ((m : Span) → o ≡ Some m → ⊥) → IsBooting x s (i + 1) n before told
+  boot-past none =
+      let p = next_part.part in record {
+        midway = left-by false (untold-other p o (is_primary p) refl next_part.is none);
+        modules = b.modules;
+        count = b.count;
+      }
 
 -- ---- the event
 
@@ -227,7 +190,7 @@ boot-past x s i n o b within is none =
 pub boot-again : (x : Parties) (s : State) → PartiesStand x s → x.booted ≡ true
     → IsRefused x s event.Boot why.Occupied
 boot-again x s st booted = record {
-  refused = ap (λ b. first_met ((b, why.Occupied) ∷ [])) (st.parts.booted ∙ booted);
+  refused = ap (λ b. first_met ((b, why.Occupied) ∷ [])) (st.parts.rest.booted ∙ booted);
   stand = st.parts;
 }
 
@@ -237,7 +200,7 @@ pub boot-done : (x y : Parties) (s : State) (i n : ℕ) {before told : List Entr
     → IsDone y s event.Boot before told
 unfolding machine_opened greets
 boot-done x y s i n st booted m past = record {
-  allowed = ap (λ b. first_met ((b, why.Occupied) ∷ [])) (st.parts.booted ∙ booted);
+  allowed = ap (λ b. first_met ((b, why.Occupied) ∷ [])) (st.parts.rest.booted ∙ booted);
   done =
       does-by_state boots_at (midway-end (midway-as nothing
       (ap (λ ms. each (primaries ms) tells)

@@ -1,5 +1,5 @@
 -- A bridge line is told as refused, or its request is sent, as the machine does.
-use Rattle.std.proofs.Common.{◌≡◌, ◌≤◌, ◌<◌, ℕ, false, Some, None, IsSome}
+use Rattle.std.proofs.Common.{◌≡◌, ◌≤◌, ◌<◌, ℕ, false, Some, None}
 use Rattle.std.proofs.Common.{Ok, List, [], length, take, drop, sym, ap, ◌∙◌}
 use Rattle.std.proofs.Common.{option_map, nat_lt, subst, arith}
 use Rattle.std.specs.Prelude.{◌||◌}
@@ -8,7 +8,6 @@ use Rattle.std.proofs.lemmas.Bool.Decides.{nat_tests}
 use Rattle.gb_base.specs.declared.bridge.BridgeAsk.{BridgeAsk}
 use Rattle.gb_base.specs.declared.bridge.BridgeAsk.TheVariants as ask
 use Rattle.gb_base.specs.declared.bridge.Bridged.{Bridged}
-use Rattle.gb_base.specs.declared.end.Side.TheVariants as side
 use Rattle.gb_base.specs.declared.entry.Entry.{Entry}
 use Rattle.gb_base.specs.declared.event.Event.TheVariants as event
 use Rattle.gb_base.specs.declared.name.Name.{Name}
@@ -25,7 +24,6 @@ use Rattle.gb_machine.proofs.Options.{none-of}
 use Rattle.gb_machine.specs.Actions.{Action, given}
 use Rattle.gb_machine.specs.Host.{Host, link_at, link_of, with_link}
 use Rattle.gb_machine.specs.HostRefusals.{bridge_conditions}
-use Rattle.gb_machine.specs.Labels.{next_label}
 use Rattle.gb_machine.specs.LineActions.{bridge_sent, bridges, sends_on, spent}
 use Rattle.gb_machine.specs.Lists.{first_met}
 use Rattle.gb_machine.specs.Names.{named}
@@ -33,6 +31,7 @@ use Rattle.gb_machine.specs.Refusals.{line_conditions}
 use Rattle.gb_machine.specs.State.{State}
 use Rattle.gb_system.proofs.Bridgings.{IsLink, is-link, line-met}
 use Rattle.gb_system.proofs.Doings.{does-by_state, does-given, does-on_host, does-then}
+use Rattle.gb_system.proofs.Sends.{SendsOn}
 use Rattle.gb_system.proofs.Standing.{rehosted}
 use Rattle.gb_laws.specs.Possible.{IsAskable}
 use Rattle.gb_system.specs.Bridging.{BridgesTo}
@@ -73,82 +72,83 @@ is-short what l met = small (length (ask_request what).1) (unmet (bridge_conditi
 
 -- ---- the line
 
--- the machine's action, on the connection of the line
-does-bridges : {y z : Parties} {s : State} {a b : List Entry} (name : Name) (i c : ℕ)
-    (what : BridgeAsk) (l : Link) → link_at i c s.host ≡ Some l
-    → first_met (bridge_conditions l what) ≡ None
-    → PartsStand [] y (record s { host = with_link l.intf l.cport (spent what) s.host })
-    → Does z (sends_on name l.connection (ask_request what).0 (ask_request what).1 1000)
-    (record s { host = with_link l.intf l.cport (spent what) s.host }) a b
-    → Does z (bridges name i c what) s a b
-unfolding machine_opened
-does-bridges {y} {z} {s} {a} {b} name i c what l there met st sent =
-    does-by_state (λ t. given (link_at i c t.host) on)
-    (does-given on l there
-    (subst (λ answer. Does z (bridge_sent name l what answer) s a b) (sym answer)
-    (does-then (does-on_host (with_link l.intf l.cport (spent what)) st) sent)))
-  where
-    on : Link → Action
-    on k = bridge_sent name k what (bridge_answer k.protocol what)
+module _ (s : State) (name : Name) (i c : ℕ) (what : BridgeAsk) where
+  -- its request
+  abbrev asked : Request
+  asked = ask_request what
 
-    answer : bridge_answer l.protocol what ≡ Ok (ask_request what)
-    answer = let h = unmet (bridge_conditions l what) met in answered-by l.protocol what h.0 h.1.0
+  -- the state once the credits are taken
+  abbrev spent_on : Link → State
+  spent_on l = record s { host = with_link l.intf l.cport (spent what) s.host }
 
--- what becomes of a request on a connection
-abbrev pub SendsOn : Name → ℕ → ℕ → List ℕ → Parties → Parties → List Entry → List Entry → Type 0
-SendsOn name k kind payload x y before told =
-    (t : State) → PartsStand [] x t → named name t.names ≡ None → IsAskable kind payload
-    → IsSome (next_label k side.Ap t.bus)
-    → Does y (sends_on name k kind payload 1000) t before told
+  -- the machine's action, on the connection of the line
+  does-bridges : {y z : Parties} {a b : List Entry} (l : Link) → link_at i c s.host ≡ Some l
+      → first_met (bridge_conditions l what) ≡ None → PartsStand [] y (spent_on l)
+      → Does z (sends_on name l.connection asked.0 asked.1 1000) (spent_on l) a b
+      → Does z (bridges name i c what) s a b
+  unfolding machine_opened
+  does-bridges {y} {z} {a} {b} l there met st sent =
+      does-by_state (λ t. given (link_at i c t.host) on)
+      (does-given on l there
+      (subst (λ answer. Does z (bridge_sent name l what answer) s a b) (sym answer)
+      (does-then (does-on_host (with_link l.intf l.cport (spent what)) st) sent)))
+    where
+      on : Link → Action
+      on k = bridge_sent name k what (bridge_answer k.protocol what)
 
--- a line is sent
-pub bridge-done : (x z : Parties) (h : code.Host) (s : State) (name : Name) (i c : ℕ)
-    (what : BridgeAsk) (old new payload : List ℕ) (b : Bridging) (before es : List Entry)
-    → PartiesStand x s → BridgesTo s name i c what old new (Ok b)
-    → ((g : Host) (l : Link) → host.Stands x.host g → link_of b.connection g ≡ Some l
-    → host.Stands h (with_link l.intf l.cport (spent what) g))
-    → payload ≡ take b.request.len new
-    → SendsOn name b.connection b.request.kind payload (record x { host = h }) z before es
-    → IsDone z s (event.Bridge name i c what) before es
-unfolding machine_opened
-bridge-done x z h s name i c what old new payload b before es st is spends front sends = record {
-  allowed = is.allowed;
-  done =
-      does-bridges name i c what is.link is.there met stand
-      (subst (λ k. Does z (sends_on name k (ask_request what).0 (ask_request what).1 1000) t before
-      es) (sym is.number)
-      (subst (λ bytes. Does z (sends_on name b.connection (ask_request what).0 bytes 1000) t before
-      es) bytes_are
-      (subst (λ kind. Does z (sends_on name b.connection kind payload 1000) t before es)
-      is.written.kind (sends t stand free askable is.label))));
-}
-  where
-    met : first_met (bridge_conditions is.link what) ≡ None
-    met = line-met s name i c what is.link is.there is.allowed
+      answer : bridge_answer l.protocol what ≡ Ok asked
+      answer =
+          let h = unmet (bridge_conditions l what) met in answered-by l.protocol what h.0 h.1.0
 
-    free : named name s.names ≡ None
-    free = none-of (named name s.names) (unmet (line_conditions s name i c what) is.allowed).0
+  -- a line is sent
+  pub bridge-done : (x z : Parties) (h : code.Host) (old new front : List ℕ) (b : Bridging)
+      (before es : List Entry) → PartiesStand x s → BridgesTo s name i c what old new (Ok b)
+      → ((g : Host) (l : Link) → host.Stands x.host g → link_of b.connection g ≡ Some l
+      → host.Stands h (with_link l.intf l.cport (spent what) g))
+      → front ≡ take b.request.len new
+      → SendsOn name b.connection b.request.kind front 1000 (record x { host = h }) z before es
+      → IsDone z s (event.Bridge name i c what) before es
+  unfolding machine_opened
+  bridge-done x z h old new front b before es st is spends front_is sends = record {
+    allowed = is.allowed;
+    done =
+        does-bridges l is.there met stand
+        (subst (λ k. Does z (sends_on name k asked.0 asked.1 1000) t before es) (sym is.number)
+        (subst (λ bytes. Does z (sends_on name b.connection asked.0 bytes 1000) t before es)
+        bytes_are
+        (subst (λ n. Does z (sends_on name b.connection n front 1000) t before es)
+        is.written.kind (sends t stand free askable is.label))));
+  }
+    where
+      l : Link
+      l = is.link
 
-    l : IsLink s.host i c b.connection
-    l = is-link s x i c b.connection st (ap (option_map (λ (k : Link). k.connection)) is.there
-        ∙ ap Some is.number)
+      t : State
+      t = spent_on l
 
-    t : State
-    t = record s { host = with_link is.link.intf is.link.cport (spent what) s.host }
+      met : first_met (bridge_conditions l what) ≡ None
+      met = line-met s name i c what l is.there is.allowed
 
-    same : l.link ≡ is.link
-    same = let both : Some l.link ≡ Some is.link = sym l.there ∙ is.there in cc
+      free : named name s.names ≡ None
+      free = none-of (named name s.names) (unmet (line_conditions s name i c what) is.allowed).0
 
-    stand : PartsStand [] (record x { host = h }) t
-    stand =
-        rehosted h (with_link is.link.intf is.link.cport (spent what) s.host) st.parts
-        (spends s.host is.link st.parts.host (l.of_number ∙ ap Some same))
+      found : IsLink s.host i c b.connection
+      found = is-link s x i c b.connection st (ap (option_map (λ (k : Link). k.connection)) is.there
+          ∙ ap Some is.number)
 
-    bytes_are : payload ≡ (ask_request what).1
-    bytes_are = front ∙ written-is (ask_request what) old new b.request is.written
+      same : found.link ≡ l
+      same = let both : Some found.link ≡ Some l = sym found.there ∙ is.there in cc
 
-    askable : IsAskable b.request.kind payload
-    askable = (
-      subst (λ n. n < 128) (sym is.written.kind) (is-low what),
-      subst (λ bytes. length bytes ≤ most_payload) (sym bytes_are) (is-short what is.link met),
-    )
+      stand : PartsStand [] (record x { host = h }) t
+      stand =
+          rehosted h t.host st.parts
+          (spends s.host l st.parts.host (found.of_number ∙ ap Some same))
+
+      bytes_are : front ≡ asked.1
+      bytes_are = front_is ∙ written-is asked old new b.request is.written
+
+      askable : IsAskable b.request.kind front
+      askable = (
+        subst (λ n. n < 128) (sym is.written.kind) (is-low what),
+        subst (λ bytes. length bytes ≤ most_payload) (sym bytes_are) (is-short what l met),
+      )

@@ -1,6 +1,6 @@
 -- A connect, a disconnect and a drain are refused or done as the machine does.
 use Rattle.std.proofs.Common.{◌≡◌, ℕ, Bool, true, false, Option, Some, None, is_none, List, []}
-use Rattle.std.proofs.Common.{◌∷◌, ap, option_map, refl, subst, sym, ◌∙◌}
+use Rattle.std.proofs.Common.{◌∷◌, ◌++◌, ap, option_map, refl, subst, sym, ◌∙◌}
 use Rattle.gb_base.specs.declared.end.Side.TheVariants as side
 use Rattle.gb_base.specs.declared.entry.ConnState.TheVariants as state
 use Rattle.gb_base.specs.declared.entry.Entry.{Entry}
@@ -48,13 +48,11 @@ connect-refused s i c why st refused = record {
 }
 
 -- what is left of the refusals
-connect-last : (s : State) (i c : ℕ) (spent : Bool)
-    → first_met (connect_conditions i c s.host) ≡ None
-    → spent ≡ is_none (next_label 1 side.Ap s.bus)
-    → refusal s (event.Connect i c) ≡ first_met ((spent, why.NoLabel) ∷ [])
-connect-last s i c spent free is =
-    met-late (connect_conditions i c s.host) (last_condition s) free
-    ∙ ap (λ b. first_met ((b, why.NoLabel) ∷ [])) (sym is)
+last-met : (cs : List Condition) (left spent is : Bool) → first_met cs ≡ None → spent ≡ left
+    → spent ≡ is → first_met (cs ++ (left, why.NoLabel) ∷ []) ≡ first_met ((is, why.NoLabel) ∷ [])
+last-met cs left spent is free by so =
+    met-late cs ((left, why.NoLabel) ∷ []) free
+    ∙ ap (λ b. first_met ((b, why.NoLabel) ∷ [])) (sym by ∙ so)
 
 -- no identifier is left
 pub connect-spent : {x : Parties} (s : State) (i c : ℕ) (spent : Bool) → PartiesStand x s
@@ -62,7 +60,8 @@ pub connect-spent : {x : Parties} (s : State) (i c : ℕ) (spent : Bool) → Par
     → spent ≡ is_none (next_label 1 side.Ap s.bus) → spent ≡ true
     → IsRefused x s (event.Connect i c) why.NoLabel
 connect-spent s i c spent st free by so = record {
-  refused = connect-last s i c spent free by ∙ ap (λ b. first_met ((b, why.NoLabel) ∷ [])) so;
+  refused =
+      last-met (connect_conditions i c s.host) (has_no_label 1 side.Ap s) spent true free by so;
   stand = st.parts;
 }
 
@@ -77,7 +76,8 @@ pub connect-done : (x y : Parties) (s : State) (i c : ℕ) (spent : Bool) (befor
 unfolding machine_opened
 connect-done x y s i c spent before es valid st free by so noticed =
     let allowed : refusal s (event.Connect i c) ≡ None =
-    connect-last s i c spent free by ∙ ap (λ b. first_met ((b, why.NoLabel) ∷ [])) so in record {
+    last-met (connect_conditions i c s.host) (has_no_label 1 side.Ap s) spent false free by so in
+    record {
       allowed = allowed;
       done = noticed s st.parts (reached-connects s i c st.run allowed valid);
     }
@@ -100,20 +100,13 @@ disconnect-refused s i c why st refused = record {
   stand = st.parts;
 }
 
--- what is left of the refusals
-disconnect-last : (s : State) (i c : ℕ) (spent : Bool)
-    → first_met (disconnect_conditions i c s.host) ≡ None → spent ≡ control_spent s i
-    → refusal s (event.Disconnect i c) ≡ first_met ((spent, why.NoLabel) ∷ [])
-disconnect-last s i c spent free is =
-    met-late (disconnect_conditions i c s.host) (control_condition s i) free
-    ∙ ap (λ b. first_met ((b, why.NoLabel) ∷ [])) (sym is)
-
 -- no identifier is left on the connection to Control
 pub disconnect-spent : {x : Parties} (s : State) (i c : ℕ) (spent : Bool) → PartiesStand x s
     → first_met (disconnect_conditions i c s.host) ≡ None → spent ≡ control_spent s i
     → spent ≡ true → IsRefused x s (event.Disconnect i c) why.NoLabel
 disconnect-spent s i c spent st free by so = record {
-  refused = disconnect-last s i c spent free by ∙ ap (λ b. first_met ((b, why.NoLabel) ∷ [])) so;
+  refused =
+      last-met (disconnect_conditions i c s.host) (control_spent s i) spent true free by so;
   stand = st.parts;
 }
 
@@ -128,7 +121,8 @@ pub disconnect-done : (x y : Parties) (s : State) (i c : ℕ) (spent : Bool)
 unfolding machine_opened
 disconnect-done x y s i c spent before es st free by so noticed =
     let allowed : refusal s (event.Disconnect i c) ≡ None =
-    disconnect-last s i c spent free by ∙ ap (λ b. first_met ((b, why.NoLabel) ∷ [])) so in record {
+    last-met (disconnect_conditions i c s.host) (control_spent s i) spent false free by so in
+    record {
       allowed = allowed;
       done = noticed s st.parts (reached-disconnects s i c st.run allowed);
     }

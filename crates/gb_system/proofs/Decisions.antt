@@ -228,6 +228,15 @@ decided_by y s step v d f same decides =
     subst (λ w. Decides y s (svc_decided w step.ports s) d) (sym f.answer)
     (subst (λ ps. Decides y s (svc_decided v ps s) d) (sym same) decides)
 
+-- they decide where the table leaves it to them, and changes no interface
+pub decided_there : {around : Around} {x : Bus} {z : Ladder} (y : Ladder) (s : State)
+    (step : SvcStep) (v : SvcServed) (d : Decision) → BusAndPorts around x z s → Follows y step v
+    → step.ports ≡ s.ports
+    → (BusAndPorts around x y s → Decides y s (svc_decided v s.ports s) d)
+    → Decides y s (svc_stepped step s) d
+decided_there {around} {x} {z} y s step v d st f same decides =
+    decided_by y s step v d f same (decides (stand_still around x y z s step v st f same))
+
 -- they decide on an interface's route, with another ladder afterwards
 pub decided_unroute : (y z : Ladder) (s : State) (step : SvcStep) (i : ℕ) (d : Decision)
     → Follows y step (SvcServed.Unroute i)

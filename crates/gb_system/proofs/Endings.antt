@@ -153,7 +153,8 @@ unfolding machine_opened
 loads-none {x} {y} {s} n how st d none =
     does-then {g = load_follows n how} d
     (does-as {f = nothing} (sym (follows-none n how (host_follows n how s).state
-    (ap (load_of n) (host_follows-loads n how s ∙ st.loads) ∙ unwaited (load_of n x.loads) none)))
+    (ap (load_of n) (host_follows-loads n how s ∙ st.plugged.loads)
+    ∙ unwaited (load_of n x.loads) none)))
     (does-nothing d.stand))
   where
     unwaited : (o : Option Load) → None ≡ option_map (λ l. how) o → o ≡ None

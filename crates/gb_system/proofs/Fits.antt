@@ -115,6 +115,22 @@ gpio_read_fits : (lines : List GpioLine) (read : Result GpioAsk PayloadFault)
 gpio_read_fits lines (Ok ask) = gpio_fits lines ask
 gpio_read_fits lines (Err fault) = plain_fits _
 
+-- ---- transfers
+
+-- one that isn't refused reads no more than fits
+transfer_fits : {D : Type 0} (device : D) (strange elsewhere : Bool) (size : ℕ) (run : Step D)
+    → (size ≤ most_payload → IsFitting run.served)
+    → IsFitting (cond strange (refuses device invalid) (cond elsewhere (refuses device nonexistent)
+    (cond (nat_lt most_payload size) (refuses device overflow) run))).served
+transfer_fits {D} device true elsewhere size run fits = plain_fits invalid
+transfer_fits {D} device false true size run fits = plain_fits nonexistent
+transfer_fits {D} device false false size run fits = by (nat_lt most_payload size) refl
+  where
+    by : (c : Bool) → nat_lt most_payload size ≡ c
+        → IsFitting (cond c (refuses device overflow) run).served
+    by true h = plain_fits overflow
+    by false h = fits (not_above most_payload size h)
+
 -- ---- I2C
 
 read_from_length : (memory : List ℕ) (place n : ℕ) → length (read_from memory place n) ≡ n
@@ -137,18 +153,9 @@ ops_fit device bytes front (op ∷ ops) h =
 i2c_transfer_fits : (device : I2cDevice) (ops : List TransferOp) (bytes : List ℕ)
     → IsFitting (i2c_transfer_step device ops bytes).served
 i2c_transfer_fits device ops bytes =
-    by (list_any has_strange_flags ops) (list_any is_elsewhere ops)
-    (nat_lt most_payload (sum_by op_read_size ops)) refl
-  where
-    by : (a b c : Bool) → nat_lt most_payload (sum_by op_read_size ops) ≡ c
-        → IsFitting (cond a (refuses device invalid) (cond b (refuses device nonexistent)
-        (cond c (refuses device overflow) (ops_run device bytes [] ops)))).served
-    by true b c h = plain_fits invalid
-    by false true c h = plain_fits nonexistent
-    by false false true h = plain_fits overflow
-    by false false false h =
-        let few = not_above most_payload (sum_by op_read_size ops) h in
-        ops_fit device bytes [] ops (omega (arith, few))
+    transfer_fits device (list_any has_strange_flags ops) (list_any is_elsewhere ops)
+    (sum_by op_read_size ops) (ops_run device bytes [] ops)
+    (λ few. ops_fit device bytes [] ops (omega (arith, few)))
 
 i2c_fits : (device : I2cDevice) (ask : I2cAsk) → IsFitting (i2c_asked device ask).served
 i2c_fits device I2cAsk.Functionality = fitting 0 _ (omega arith)
@@ -190,18 +197,9 @@ entries_fit last bytes front (entry ∷ entries) h =
 spi_transfer_fits : (last select mode : ℕ) (entries : List TransferEntry) (bytes : List ℕ)
     → IsFitting (spi_transfer_step last select mode entries bytes).served
 spi_transfer_fits last select mode entries bytes =
-    by (nat_lt 3 mode || list_any is_strange entries) (nat_lt 0 select)
-    (nat_lt most_payload (sum_by entry_read_size entries)) refl
-  where
-    by : (a b c : Bool) → nat_lt most_payload (sum_by entry_read_size entries) ≡ c
-        → IsFitting (cond a (refuses last invalid) (cond b (refuses last nonexistent)
-        (cond c (refuses last overflow) (entries_run last bytes [] entries)))).served
-    by true b c h = plain_fits invalid
-    by false true c h = plain_fits nonexistent
-    by false false true h = plain_fits overflow
-    by false false false h =
-        let few = not_above most_payload (sum_by entry_read_size entries) h in
-        entries_fit last bytes [] entries (omega (arith, few))
+    transfer_fits last (nat_lt 3 mode || list_any is_strange entries) (nat_lt 0 select)
+    (sum_by entry_read_size entries) (entries_run last bytes [] entries)
+    (λ few. entries_fit last bytes [] entries (omega (arith, few)))
 
 spi_fits : (last : ℕ) (ask : SpiAsk) → IsFitting (spi_asked last ask).served
 spi_fits last SpiAsk.MasterConfig = fitting 0 (spi_reply_payload master) (at_most _ _ refl)

@@ -111,7 +111,7 @@ far-reply {x} {s} {at} {k} {asked} {payload} {c} {item} d far st =
     (inl refl) in
     let same = same-some own.0 w.request (sym own.1 ∙ w.made) in
     ap (λ (q : Incoming). q.oneway) (sym w.is)
-    ∙ (st.sound w.number w.request w.made).twoway
+    ∙ (st.requests.sound w.number w.request w.made).twoway
     (ap (λ (r : Request). r.side) (sym same) ∙ own.3)
 
 -- it fits into a message
@@ -122,7 +122,7 @@ pub far-fits : {x : Parties} {s : State} {at : End} {k : ℕ} {asked : Asked} {p
 far-fits d far st =
     let w = made-as d far in
     subst (λ (q : Incoming). length q.payload ≤ most_payload) w.is
-    (st.sound w.number w.request w.made).fits
+    (st.requests.sound w.number w.request w.made).fits
 
 -- so it may be replied to
 abbrev pub may-reply : {s : State} {at : End} {k : ℕ} {asked : Asked} {payload : List ℕ}

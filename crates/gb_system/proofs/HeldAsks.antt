@@ -21,18 +21,19 @@ use Rattle.gb_machine.specs.Actions.{change, given, tell}
 use Rattle.gb_machine.specs.Arriving.{asked_at, dropped, is_held, keeps, takes, with_held}
 use Rattle.gb_machine.specs.Bus.{Connection, Item, Place}
 use Rattle.gb_machine.specs.Events.{does, with_hold}
+use Rattle.gb_machine.specs.Holding.{marked}
 use Rattle.gb_machine.specs.Incoming.{Incoming, incoming, request_in}
 use Rattle.gb_machine.specs.LineActions.{serves_held}
 use Rattle.gb_machine.specs.Lists.{Condition, first_met}
 use Rattle.gb_machine.specs.Refusals.{is_unplugged, module_place}
 use Rattle.gb_machine.specs.Responding.{serves}
-use Rattle.gb_machine.specs.State.{State}
+use Rattle.gb_machine.specs.State.{Held, State}
 use Rattle.gb_system.proofs.Doings.{does-as, does-by_state, does-change, does-given, does-is}
 use Rattle.gb_system.proofs.Doings.{does-tell}
 use Rattle.gb_system.proofs.Heard.{made-as, request-dropped}
 use Rattle.gb_system.proofs.HoldMarks.{marked-alike}
 use Rattle.gb_system.proofs.Holdings.{stand-pushed}
-use Rattle.gb_system.proofs.Standing.{let-gone}
+use Rattle.gb_system.proofs.Standing.{let-gone, reheld, remarked}
 use Rattle.gb_system.specs.Doing.{Does, IsDone}
 use Rattle.gb_system.specs.Held.{HoldsAs, MarksAs, held_at}
 use Rattle.gb_system.specs.Holding.{WiredAs}
@@ -99,25 +100,6 @@ is-at s i c k is = by (module_place i c s) refl is
 
 -- ---- a connection gets the hold mark
 
--- the parties stand for it
-hold-stand : (x : Parties) (holds : List ℕ) (s : State) (k : ℕ) → PartsStand [] x s
-    → MarksAs x.holds holds k true → PartsStand [] (record x { holds = holds }) (with_hold k s)
-hold-stand x holds s k st marks = record {
-  bus = st.bus;
-  ports = st.ports;
-  modules = st.modules;
-  loads = st.loads;
-  host = st.host;
-  names = st.names;
-  apart = st.apart;
-  booted = st.booted;
-  sound = st.sound;
-  short = st.short;
-  time = st.time;
-  holds = marked-alike x.holds holds s.holds k marks st.holds;
-  held = st.held;
-}
-
 does-holds : {y : Parties} (s : State) (i c : ℕ) (p : Place) {a b : List Entry}
     → module_place i c s ≡ Some p → Does y (change (with_hold p.connection.number)) s a b
     → Does y (does (event.Hold i c)) s a b
@@ -136,7 +118,8 @@ hold-done x holds s i c k told st wired marks =
       done =
           does-holds s i c w.place w.named
           (subst (λ j. Does y (change (with_hold j)) s told told) (sym w.number)
-          (does-change (with_hold k) (hold-stand x holds s k st.parts marks)));
+          (does-change (with_hold k) (remarked holds (marked k s.holds) st.parts
+          (marked-alike x.holds holds s.holds k marks st.parts.rest.holds))));
     }
 
 -- ---- a request that is delivered is held
@@ -185,25 +168,15 @@ pub keep-stand : {x : Parties} {s : State} (held : HeldRequests) (k : ℕ) (item
     → HoldsAs x.held held k (held_at x.held k ++ h ∷ [])
     → StandsForHeld s.bus.requests h (record { connection = k; item = item })
     → PartsStand [] (record x { held = held }) (with_held k item s)
-keep-stand {x} {s} held k item h st holds one = record {
-  bus = subst (λ ls. bus.Stands (bus.around_of ls (names_of s)) x.bus s.bus)
-      (sym (map-append held_item s.held _))
-      (stands-between (names_of s) (held_items s) (taken_from k side.Far item) [] x.bus s.bus
-      (subst (λ ls. bus.Stands (bus.around_of (taken_from k side.Far item ∷ ls) (names_of s))
-      x.bus s.bus) (sym (append-nil (held_items s))) st.bus));
-  ports = st.ports;
-  modules = st.modules;
-  loads = st.loads;
-  host = st.host;
-  names = st.names;
-  apart = st.apart;
-  booted = st.booted;
-  sound = st.sound;
-  short = st.short;
-  time = st.time;
-  holds = st.holds;
-  held = stand-pushed s.held k h (record { connection = k; item = item }) st.held holds refl one;
-}
+keep-stand {x} {s} held k item h st holds one =
+    let kept : Held = record { connection = k; item = item } in
+    reheld [] x.bus s.bus held (s.held ++ kept ∷ []) st
+    (subst (λ ls. bus.Stands (bus.around_of ls (names_of s)) x.bus s.bus)
+    (sym (map-append held_item s.held _))
+    (stands-between (names_of s) (held_items s) (taken_from k side.Far item) [] x.bus s.bus
+    (subst (λ ls. bus.Stands (bus.around_of (taken_from k side.Far item ∷ ls) (names_of s))
+    x.bus s.bus) (sym (append-nil (held_items s))) st.bus)))
+    refl (stand-pushed s.held k h kept st.requests.held holds refl one)
 
 pub kept-done : {x : Parties} {s : State} {a b : List Entry} (held : HeldRequests) (at : End)
     (k : ℕ) (asked : Asked) (payload : List ℕ) (c : Connection) (item : Item) (h : HeldRequest)

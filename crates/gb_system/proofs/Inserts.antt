@@ -47,7 +47,7 @@ pub plugged-is : (x : Parties) (s : State) (i : ℕ) (o : Option (Bor Module)) (
     → PartsStand [] x s → option_copied o ≡ module_at i x.modules → t ≡ is_some o
     → is_plugged i s.modules ≡ t
 plugged-is x s i o t st at is =
-    ap (is_plugged i) st.modules ∙ there-is o (module_at i x.modules) t at is
+    ap (is_plugged i) st.plugged.modules ∙ there-is o (module_at i x.modules) t at is
 
 -- nothing is plugged at so many interfaces, so none of them has power
 pub free-spans : (s : State) (i count j : ℕ) → OfARun s → is_taken i count s ≡ false → i ≤ j
@@ -74,7 +74,8 @@ free-spans s i (suc more) j run free from to =
 pub taken-is : (x : Parties) (s : State) (i count : ℕ) (t : Bool) → PartsStand [] x s
     → t ≡ list_any (λ j. is_plugged j x.modules) (span i count) → is_taken i count s ≡ t
 taken-is x s i count t st is =
-    ap (λ (ms : List Plugged). list_any (λ j. is_plugged j ms) (span i count)) st.modules ∙ sym is
+    ap (λ (ms : List Plugged). list_any (λ j. is_plugged j ms) (span i count)) st.plugged.modules
+    ∙ sym is
 
 -- ---- what is told
 

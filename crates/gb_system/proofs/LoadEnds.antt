@@ -29,8 +29,8 @@ use Rattle.gb_system.proofs.Doings.{does-nothing, does-tell, does-then}
 use Rattle.gb_system.proofs.Loadings.{GoesWell, can-well, follows-none, follows-not, follows-on}
 use Rattle.gb_system.proofs.Loadings.{goes-as, goes-well, past_by, with_followed}
 use Rattle.gb_system.proofs.Midways.{Midway, midway-as, midway-first, midway-here, midway-more}
-use Rattle.gb_system.proofs.ModuleServes.{short-at, short-with, stands-with}
-use Rattle.gb_system.proofs.Standing.{reloaded, repast}
+use Rattle.gb_system.proofs.ModuleServes.{short-at, short-with}
+use Rattle.gb_system.proofs.Standing.{modules-stay, reloaded, repast, stands-with}
 use Rattle.gb_laws.specs.Possible.{IsAskable}
 use Rattle.gb_system.specs.Doing.{Does}
 use Rattle.gb_system.specs.Loading.{IsFit, LoadsAt, LoadsThere, asks_last, follows_at, follows_by}
@@ -78,105 +78,94 @@ followed-stand : {x : Parties} {s : State} (i c : ℕ) (how : Outcome) (way : Op
 followed-stand {x} {s} i c how way m t mods st there well is =
     let after = (if_can (is_some way) c t).after in
     let short = subst (λ (bytes : List ℕ). length bytes ≤ most_payload) (sym well.manifest)
-    (short-at i s.modules m st.short there) in
+    (short-at i s.modules m st.plugged.short there) in
     repast (past_by i c way t.next s)
     (stands-with (with_module i after s.modules) mods
-    (ap (with_module i after) st.modules ∙ sym is)
-    (short-with i after s.modules short st.short) st)
+    (ap (with_module i after) st.plugged.modules ∙ sym is)
+    (short-with i after s.modules short st.plugged.short) st)
 
--- the parties stand for the same state where the modules are the same
-unfollowed-stand : {x : Parties} {s : State} (mods : List Plugged) → mods ≡ x.modules
-    → PartsStand [] x s → PartsStand [] (record x { modules = mods }) s
-unfollowed-stand {x} {s} mods same st =
-    stands-with s.modules mods (st.modules ∙ sym same) st.short st
+module _ {x : Parties} {s : State} (n i c : ℕ) (how : Outcome) (way : Option ℕ)
+    (mods : List Plugged) (st : PartsStand [] x s)
+    (named : Some (i, c) ≡ option_map whose (load_of n x.loads)) where
+  -- the request that ended is the last one of a firmware device
+  whose_load : IsWhose n i c x.loads
+  whose_load = is-whose n i c x.loads named
 
--- The download goes on.
-pub load-goes : {x y : Parties} {s : State} {a b : List Entry} (n i c : ℕ) (how : Outcome)
-    (way : Option ℕ) (mods : List Plugged) (then : Next) → PartsStand [] x s
-    → Some (i, c) ≡ option_map whose (load_of n x.loads) → way ≡ load_way i c s
-    → LoadsThere (is_some way) i c how x.modules mods (Some then)
-    → ((t : State) → PartsStand [] (record x { modules = mods }) t → IsFit then
-    → Does y (follows_by i c way then) t a b)
-    → Does y (load_follows n how) s a b
-load-goes {x} {y} {s} {a} {b} n i c how way mods then st named over loads rest =
-    at_module (module_at i x.modules) refl loads
-  where
-    w : IsWhose n i c x.loads
-    w = is-whose n i c x.loads named
+  found : load_of n s.loads ≡ Some whose_load.load
+  found = ap (load_of n) st.plugged.loads ∙ whose_load.is
 
-    found : load_of n s.loads ≡ Some w.load
-    found = ap (load_of n) st.loads ∙ w.is
+  -- what comes of a module there
+  abbrev LoadsBy : Option Module → Option Next → Type 0
+  LoadsBy o then =
+      LoadsAt i (option_and_then (follows_at (is_some way) c how) o) x.modules mods then
 
-    at_module : (o : Option Module) → module_at i x.modules ≡ o
-        → LoadsAt i (option_and_then (follows_at (is_some way) c how) o) x.modules mods (Some then)
-        → Does y (load_follows n how) s a b
-    at_module None e h = absurd (cc (h.0))
-    at_module (Some m) e h = at_loader (module_ended m c how) refl h
-      where
-        there : module_at i s.modules ≡ Some m
-        there = ap (module_at i) st.modules ∙ e
+  -- The download goes on.
+  pub load-goes : {y : Parties} {a b : List Entry} (then : Next) → way ≡ load_way i c s
+      → LoadsThere (is_some way) i c how x.modules mods (Some then)
+      → ((t : State) → PartsStand [] (record x { modules = mods }) t → IsFit then
+      → Does y (follows_by i c way then) t a b)
+      → Does y (load_follows n how) s a b
+  load-goes {y} {a} {b} then over loads rest = at_module (module_at i x.modules) refl loads
+    where
+      at_module : (o : Option Module) → module_at i x.modules ≡ o → LoadsBy o (Some then)
+          → Does y (load_follows n how) s a b
+      at_module None e h = absurd (cc (h.0))
+      at_module (Some m) e h = at_loader (module_ended m c how) refl h
+        where
+          there : module_at i s.modules ≡ Some m
+          there = ap (module_at i) st.plugged.modules ∙ e
 
-        at_loader : (o : Option ModuleLoaded) → module_ended m c how ≡ o
-            → LoadsAt i (option_map (if_can (is_some way) c) o) x.modules mods (Some then)
-            → Does y (load_follows n how) s a b
-        at_loader None f g = absurd (cc (g.0))
-        at_loader (Some t) f g =
-            let u = if_can (is_some way) c t in
-            let well = can-well (is_some way) c m t (goes-well m c how t f) in
-            let same : then ≡ u.next = same-some then u.next g.0 in
-            let stand = followed-stand i c how way m t mods st there well g.1 in
-            let d = rest (with_followed i c way t s) stand (subst IsFit (sym same) well.fit) in
-            does-as
-            (ap (λ v. follows_by i c way v (with_followed i c way t s)) same
-            ∙ ap (λ (v : Option ℕ). follows_by i c v (if_can (is_some v) c t).next
-            (with_followed i c v t s)) over
-            ∙ goes-as i c t s
-            ∙ ap (λ k. goes_on k c t.next t.after s) (sym w.intf)
-            ∙ ap (λ k. goes_on w.load.intf k t.next t.after s) (sym w.cport)
-            ∙ sym (follows-on n how w.load m t s found
-            (ap (λ k. module_at k s.modules) w.intf ∙ there)
-            (ap (λ k. module_ended m k how) w.cport ∙ f))) d
+          at_loader : (o : Option ModuleLoaded) → module_ended m c how ≡ o
+              → LoadsAt i (option_map (if_can (is_some way) c) o) x.modules mods (Some then)
+              → Does y (load_follows n how) s a b
+          at_loader None f g = absurd (cc (g.0))
+          at_loader (Some t) f g =
+              let w = whose_load in
+              let u = if_can (is_some way) c t in
+              let well = can-well (is_some way) c m t (goes-well m c how t f) in
+              let same : then ≡ u.next = same-some then u.next g.0 in
+              let stand = followed-stand i c how way m t mods st there well g.1 in
+              let d = rest (with_followed i c way t s) stand (subst IsFit (sym same) well.fit) in
+              does-as
+              (ap (λ v. follows_by i c way v (with_followed i c way t s)) same
+              ∙ ap (λ (v : Option ℕ). follows_by i c v (if_can (is_some v) c t).next
+              (with_followed i c v t s)) over
+              ∙ goes-as i c t s
+              ∙ ap (λ k. goes_on k c t.next t.after s) (sym w.intf)
+              ∙ ap (λ k. goes_on w.load.intf k t.next t.after s) (sym w.cport)
+              ∙ sym (follows-on n how w.load m t s found
+              (ap (λ k. module_at k s.modules) w.intf ∙ there)
+              (ap (λ k. module_ended m k how) w.cport ∙ f))) d
 
--- no download runs there
-pub load-stays : {x : Parties} {s : State} {a : List Entry} (n i c : ℕ) (how : Outcome)
-    (way : Option ℕ) (mods : List Plugged) → PartsStand [] x s
-    → Some (i, c) ≡ option_map whose (load_of n x.loads)
-    → LoadsThere (is_some way) i c how x.modules mods None
-    → Does (record x { modules = mods }) (load_follows n how) s a a
-load-stays {x} {s} {a} n i c how way mods st named loads =
-    at_module (module_at i x.modules) refl loads
-  where
-    w : IsWhose n i c x.loads
-    w = is-whose n i c x.loads named
+  -- no download runs there
+  pub load-stays : {a : List Entry} → LoadsThere (is_some way) i c how x.modules mods None
+      → Does (record x { modules = mods }) (load_follows n how) s a a
+  load-stays {a} loads = at_module (module_at i x.modules) refl loads
+    where
+      ended_at : Option Module → Option ModuleLoaded
+      ended_at o = option_and_then (λ m. module_ended m c how) o
 
-    found : load_of n s.loads ≡ Some w.load
-    found = ap (load_of n) st.loads ∙ w.is
+      stays : (o : Option Module) → module_at i x.modules ≡ o → ended_at o ≡ None
+          → mods ≡ x.modules → Does (record x { modules = mods }) (load_follows n how) s a a
+      stays o e none same =
+          does-as {f = nothing}
+          (sym (follows-not n how whose_load.load s found
+          (ap (λ k. option_and_then (λ m. module_ended m k how)
+          (module_at whose_load.load.intf s.modules)) whose_load.cport
+          ∙ ap (λ k. ended_at (module_at k s.modules)) whose_load.intf
+          ∙ ap (λ ms. ended_at (module_at i ms)) st.plugged.modules ∙ ap ended_at e ∙ none)))
+          (does-nothing (modules-stay mods same st))
 
-    ended_at : Option Module → Option ModuleLoaded
-    ended_at o = option_and_then (λ m. module_ended m c how) o
-
-    stays : (o : Option Module) → module_at i x.modules ≡ o → ended_at o ≡ None
-        → mods ≡ x.modules → Does (record x { modules = mods }) (load_follows n how) s a a
-    stays o e none same =
-        does-as {f = nothing}
-        (sym (follows-not n how w.load s found
-        (ap (λ k. option_and_then (λ m. module_ended m k how) (module_at w.load.intf s.modules))
-        w.cport
-        ∙ ap (λ k. ended_at (module_at k s.modules)) w.intf
-        ∙ ap (λ ms. ended_at (module_at i ms)) st.modules ∙ ap ended_at e ∙ none)))
-        (does-nothing (unfollowed-stand mods same st))
-
-    at_module : (o : Option Module) → module_at i x.modules ≡ o
-        → LoadsAt i (option_and_then (follows_at (is_some way) c how) o) x.modules mods None
-        → Does (record x { modules = mods }) (load_follows n how) s a a
-    at_module None e h = stays None e refl h.1
-    at_module (Some m) e h = at_loader (module_ended m c how) refl h
-      where
-        at_loader : (o : Option ModuleLoaded) → module_ended m c how ≡ o
-            → LoadsAt i (option_map (if_can (is_some way) c) o) x.modules mods None
-            → Does (record x { modules = mods }) (load_follows n how) s a a
-        at_loader None f g = stays (Some m) e f g.1
-        at_loader (Some t) f g = absurd (cc (g.0))
+      at_module : (o : Option Module) → module_at i x.modules ≡ o → LoadsBy o None
+          → Does (record x { modules = mods }) (load_follows n how) s a a
+      at_module None e h = stays None e refl h.1
+      at_module (Some m) e h = at_loader (module_ended m c how) refl h
+        where
+          at_loader : (o : Option ModuleLoaded) → module_ended m c how ≡ o
+              → LoadsAt i (option_map (if_can (is_some way) c) o) x.modules mods None
+              → Does (record x { modules = mods }) (load_follows n how) s a a
+          at_loader None f g = stays (Some m) e f g.1
+          at_loader (Some t) f g = absurd (cc (g.0))
 
 -- it isn't the last request of a firmware device
 pub load-nowhere : {x : Parties} {s : State} {a : List Entry} (n : ℕ) (how : Outcome)
@@ -184,7 +173,8 @@ pub load-nowhere : {x : Parties} {s : State} {a : List Entry} (n : ℕ) (how : O
     → Does x (load_follows n how) s a a
 load-nowhere {x} {s} n how st none =
     does-as {f = nothing}
-    (sym (follows-none n how s (ap (load_of n) st.loads ∙ none-whose (load_of n x.loads) none)))
+    (sym (follows-none n how s (ap (load_of n) st.plugged.loads
+    ∙ none-whose (load_of n x.loads) none)))
     (does-nothing st)
 
 -- ---- the next request
@@ -200,7 +190,7 @@ unfolding machine_opened asks_last
 load-asked {x} {y} {s} {a} {b} way k i c n own loads st there number put asks =
     let t = with_last i c (next_number s.bus) s in
     let stand = reloaded loads t.loads st
-    (ap (last_asked i c (next_number s.bus)) st.loads
+    (ap (last_asked i c (next_number s.bus)) st.plugged.loads
     ∙ ap (λ j. last_asked i c j x.loads) (sym number) ∙ sym put) in
     does-given (λ k. asks_last k i c own) k there
     (does-by_state (λ u. change (with_last i c (next_number u.bus)) ▸ far_asks k own)

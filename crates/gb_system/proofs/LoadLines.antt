@@ -139,7 +139,7 @@ pub line-unwired : {x : Parties} {s : State} (i c : ℕ) (may : Result Unit Refu
     → refused ≡ unwired_why (refusal_in may) → LoadsOver s i c (Err refused)
 line-unwired {x} {s} i c may o refused st decides named none is =
     load-unwired s i c (none-placed (module_place i c s) (sym none ∙ named))
-    ∙ ap (λ ms. Some (unwired_why (module_refusal (module_at i ms) c))) st.modules
+    ∙ ap (λ ms. Some (unwired_why (module_refusal (module_at i ms) c))) st.plugged.modules
     ∙ ap (λ r. Some (unwired_why r)) decides ∙ ap Some (sym is)
   where
     none-placed : (p : Option Place) → None ≡ option_map number_of p → p ≡ None
@@ -156,7 +156,7 @@ line-by : {x : Parties} {s : State} (i c k : ℕ) (may : Result Unit Refusal) (o
 line-by {x} {s} i c k may o spent st decides named some left =
     let at = is-at s i c k (sym named ∙ some) in
     load-wired s i c at.place (refusal_in may) spent at.named
-    (ap (λ ms. module_refusal (module_at i ms) c) st.modules ∙ decides)
+    (ap (λ ms. module_refusal (module_at i ms) c) st.plugged.modules ∙ decides)
     (ap (λ j. has_no_label j side.Far s) at.number ∙ left)
 
 -- the module decides

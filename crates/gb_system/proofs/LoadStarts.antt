@@ -33,8 +33,8 @@ use Rattle.gb_machine.specs.State.{Plugged, State}
 use Rattle.gb_system.proofs.Doings.{does-as, does-by_state, does-given, does-on_host}
 use Rattle.gb_system.proofs.HeldAsks.{IsAt, is-at}
 use Rattle.gb_system.proofs.Loadings.{load-manifest}
-use Rattle.gb_system.proofs.ModuleServes.{short-at, short-with, stands-with}
-use Rattle.gb_system.proofs.Standing.{rehosted, repast}
+use Rattle.gb_system.proofs.ModuleServes.{short-at, short-with}
+use Rattle.gb_system.proofs.Standing.{rehosted, repast, stands-with}
 use Rattle.gb_laws.specs.Possible.{IsAskable}
 use Rattle.gb_system.specs.Doing.{Does, IsDone, IsRefused}
 use Rattle.gb_system.specs.Loading.{BeginsAt, LoadsOver, asks_last}
@@ -110,14 +110,14 @@ load-done {x} {y} {s} {a} {b} i c tag k mods own st valid over begun rest = reco
         → BeginsAt i c tag o x.modules mods own → Does y (loads i c tag) s a b
     at_module None e h = absurd h
     at_module (Some m) e h =
-        let there = ap (module_at i) st.modules ∙ e in
+        let there = ap (module_at i) st.plugged.modules ∙ e in
         let after = module_load m c tag in
         let t = with_load i c k after s in
         let short = subst (λ (bytes : List ℕ). length bytes ≤ most_payload)
-        (sym (load-manifest m c tag)) (short-at i s.modules m st.short there) in
+        (sym (load-manifest m c tag)) (short-at i s.modules m st.plugged.short there) in
         let stand = repast t.past (stands-with (with_module i after s.modules) mods
-        (ap (with_module i after) st.modules ∙ sym h.1)
-        (short-with i after s.modules short st.short) st) in
+        (ap (with_module i after) st.plugged.modules ∙ sym h.1)
+        (short-with i after s.modules short st.plugged.short) st) in
         let askable = subst (λ (q : OwnAsk). IsAskable q.kind q.payload) (sym h.0)
         (find-askable tag valid) in
         let d = rest t stand askable in

@@ -1,6 +1,8 @@
 -- Midway through an action that is put together from many.
 use Rattle.std.proofs.Common.{◌≡◌, ◌<◌, ◌+◌, ℕ, List, [], ◌∷◌, ◌++◌, length, drop, get_or}
-use Rattle.std.proofs.Common.{drop-cons, add-one, append-nil, append_assoc, refl, sym, ap, ap₂, ◌∙◌}
+use Rattle.std.proofs.Common.{drop-cons, add-one, append-nil, append_assoc, slice_index_or, refl}
+use Rattle.std.proofs.Common.{sym, ap, ap₂, ◌∙◌}
+use Rattle.std.proofs.lemmas.Grind.{get_or_default_zero}
 use Rattle.gb_base.specs.declared.entry.Entry.{Entry}
 use Rattle.gb_machine.proofs.Opened.{machine_opened}
 use Rattle.gb_machine.proofs.Steps.{told_before}
@@ -100,3 +102,10 @@ pub drop-next : {A : Type 0} (xs : List A) (i : ℕ) (x : A) → i < length xs �
     → drop i xs ≡ x ∷ drop (i + 1) xs
 drop-next xs i x within is =
     drop-cons xs i x within ∙ ap₂ (λ y n. y ∷ drop n xs) (sym is) (sym (add-one i))
+
+-- and so it is of numbers, as the code has them
+pub drop-number : (ns : List ℕ) (i : ℕ) → i < length ns
+    → drop i ns ≡ slice_index_or ns i 0 ∷ drop (i + 1) ns
+drop-number ns i within =
+    let n = slice_index_or ns i 0 in
+    drop-next ns i n within (sym (get_or_default_zero ns i n within))

@@ -12,7 +12,6 @@ use Rattle.gb_bus.specs.declared.answers.Asked.{Asked}
 use Rattle.gb_formats.specs.Module.{Module}
 use Rattle.gb_formats.specs.ModuleSteps.{module_serve}
 use Rattle.gb_formats.specs.Results.{Step, most_payload, nonexistent}
-use Rattle.gb_invariants.specs.Facts.{Loose}
 use Rattle.gb_machine.proofs.Opened.{machine_opened}
 use Rattle.gb_machine.specs.Actions.{◌▸◌}
 use Rattle.gb_machine.specs.Bus.{Connection, Item}
@@ -27,6 +26,7 @@ use Rattle.gb_machine.specs.State.{Plugged, State}
 use Rattle.gb_system.proofs.Doings.{does-as, does-then}
 use Rattle.gb_system.proofs.Fits.{module_fits}
 use Rattle.gb_system.proofs.Replies.{responds-twoway}
+use Rattle.gb_system.proofs.Standing.{modules-stay, stands-with}
 use Rattle.gb_system.specs.Acting.{AreAskable}
 use Rattle.gb_system.specs.Doing.{Does}
 use Rattle.gb_system.specs.Drafts.{IsUpon}
@@ -67,26 +67,6 @@ short-with i m (p ∷ ps) short h = by (is_plugged_at i p) (short-with i m ps sh
 -- the state with other modules
 abbrev pub with_modules : List Plugged → State → State
 with_modules ms s = record s { modules = ms }
-
--- the parties stand for it, with these modules
-pub stands-with : {l : List Loose} {x : Parties} {s : State} (ms mods : List Plugged)
-    → ms ≡ mods → Each IsShort ms → PartsStand l x s
-    → PartsStand l (record x { modules = mods }) (with_modules ms s)
-stands-with ms mods same short h = record {
-  bus = h.bus;
-  ports = h.ports;
-  modules = same;
-  loads = h.loads;
-  host = h.host;
-  names = h.names;
-  apart = h.apart;
-  booted = h.booted;
-  sound = h.sound;
-  short = short;
-  time = h.time;
-  holds = h.holds;
-  held = h.held;
-}
 
 serves-one : (s : State) (c : Connection) (i cport : ℕ) (q : Incoming) (m : Module)
     → c.peer ≡ end.Module i cport → q.oneway ≡ false → module_at i s.modules ≡ Some m
@@ -166,23 +146,23 @@ serves-some k i cport asked payload x y z mods served a b d steps answers asks s
         ap (λ kind. module_serve m cport kind payload) may.names.kind
         ∙ ap (module_serve m cport q.kind) is in
         let found : module_at i s.modules ≡ Some m =
-        ap (module_at i) stand.modules ∙ there in
+        ap (module_at i) stand.plugged.modules ∙ there in
         let fits = module_fits m cport q.kind q.payload short
-        (short-at i s.modules m stand.short found) in
+        (short-at i s.modules m stand.plugged.short found) in
         let served_is : served ≡ step.served =
         (let e : Some served ≡ Some (module_serve m cport asked.kind payload).served = t.0 in
         let f : served ≡ (module_serve m cport asked.kind payload).served = cc in f)
         ∙ ap (λ (p : Step Module). p.served) same in
         let ms = with_module i step.after s.modules in
         let ms_is : ms ≡ mods =
-        ap (with_module i step.after) stand.modules
+        ap (with_module i step.after) stand.plugged.modules
         ∙ sym (ap (λ (p : Step Module). with_module i p.after x.modules) same) ∙ sym t.1 in
         let long : length step.after.manifest ≤ most_payload =
         subst (λ (bytes : List ℕ). length bytes ≤ most_payload) (sym fits.manifest)
-        (short-at i s.modules m stand.short found) in
+        (short-at i s.modules m stand.plugged.short found) in
         let t1 = with_modules ms s in
         let stand1 = stands-with ms mods ms_is
-        (short-with i step.after s.modules long stand.short) stand in
+        (short-with i step.after s.modules long stand.plugged.short) stand in
         let fit = subst (λ (v : Served). length v.payload ≤ most_payload) (sym served_is)
         fits.served.payload in
         let askable = subst (λ (v : Served). AreAskable v.asks) (sym served_is)
@@ -217,7 +197,7 @@ serves-nowhere k i cport asked payload x z mods a d steps answers s c item stand
     by (Some m) there t =
         absurd (let e : None ≡ Some (module_serve m cport asked.kind payload).served = t.0 in cc)
     by None there t =
-        let found : module_at i s.modules ≡ None = ap (module_at i) stand.modules ∙ there in
-        let stand1 = stands-with s.modules mods (stand.modules ∙ sym t.1) stand.short stand in
+        let found : module_at i s.modules ≡ None = ap (module_at i) stand.plugged.modules ∙ there in
+        let stand1 = modules-stay mods t.1 stand in
         does-as (serves-none s c i cport q peer may.twoway found)
         (answers s c item stand1 live may (omega arith))

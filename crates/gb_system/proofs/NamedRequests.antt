@@ -49,7 +49,8 @@ use Rattle.gb_system.specs.declared.parties.Parties.{Parties}
 -- what a name names in the state that the parties stand for
 pub named-parts : (x : Parties) (s : State) (name : Name) → PartsStand [] x s
     → named name s.names ≡ named name x.names
-named-parts x s name st = sym (named-sorted name s.names st.apart) ∙ ap (named name) st.names
+named-parts x s name st =
+    sym (named-sorted name s.names st.names.apart) ∙ ap (named name) st.names.listed
 
 pub named-is : (x : Parties) (s : State) (name : Name) → PartiesStand x s
     → named name s.names ≡ named name x.names
@@ -68,18 +69,12 @@ renamed : (x : Parties) (s : State) (y : code.Bus) {names : List (Name × ℕ)}
     → PartsStand [] (record x { bus = y; names = names }) (record s { names = others })
 renamed x s y others st stands same apart = record {
   bus = stands;
+  requests = st.requests;
   ports = st.ports;
-  modules = st.modules;
-  loads = st.loads;
+  plugged = st.plugged;
   host = st.host;
-  names = same;
-  apart = apart;
-  booted = st.booted;
-  sound = st.sound;
-  short = st.short;
-  time = st.time;
-  holds = st.holds;
-  held = st.held;
+  names = record { listed = same; apart = apart };
+  rest = st.rest;
 }
 
 -- A name is bound to a request, where it was free, and fewer names were than have a number.
@@ -109,13 +104,13 @@ bound-stand x s y names name n st free binds keeps asked =
     (made-bound n name s.names s.bus with_it.named.0 st.bus.named)
     with_it)
     (sorted-bound name n s.names free
-    ∙ ap (in_order pair_before (name, n)) st.names
+    ∙ ap (in_order pair_before (name, n)) st.names.listed
     ∙ sym (binds.bound (sym (named-parts x s name st) ∙ free)))
-    (apart-bound name n s.names st.apart free)
+    (apart-bound name n s.names st.names.apart free)
   where
     room : length (names_of s) < most_names
     room = subst (λ k. k < most_names)
-        (ap length (sym st.names) ∙ length-sorted s.names) binds.room
+        (ap length (sym st.names.listed) ∙ length-sorted s.names) binds.room
 
     with_it : bus.Stands (with_name n (around_bus [] s)) y s.bus
     with_it = subst (λ t. bus.Stands (cond t (with_name n (around_bus [] s)) (around_bus [] s)) y
@@ -129,12 +124,12 @@ pub freed-stand : (x : Parties) (s : State) (y : code.Bus) (names : List (Name �
 freed-stand x s y names name n st names_it is loosens =
     renamed x s y (without (λ p. same_name p.0 name) s.names) st
     (alike (without_name n (around_bus [] s)) (names_of (freed name s)) y s.bus
-    (λ m. count-freed m n name s.names st.apart names_it)
+    (λ m. count-freed m n name s.names st.names.apart names_it)
     (made-freed (λ p. same_name p.0 name) s.names s.bus st.bus.named)
     (loosens (around_bus [] s) s.bus st.bus))
-    (sorted-freed (λ p. same_name p.0 name) s.names st.apart
-    ∙ ap (without (λ p. same_name p.0 name)) st.names ∙ sym is)
-    (apart-freed (λ p. same_name p.0 name) s.names st.apart)
+    (sorted-freed (λ p. same_name p.0 name) s.names st.names.apart
+    ∙ ap (without (λ p. same_name p.0 name)) st.names.listed ∙ sym is)
+    (apart-freed (λ p. same_name p.0 name) s.names st.names.apart)
 
 -- ---- cancels
 

@@ -65,53 +65,46 @@ none-serves i cport kind payload ps o first is =
     subst (λ m. ServesThere i cport kind payload m ps ps (Ok None))
     (sym (none-there i ps o first is)) (refl, refl)
 
--- the module at a place serves
-pub one-serves : (i cport kind : ℕ) (payload : List ℕ) (ps zs : List Plugged) (o : Option ℕ)
-    (n : ℕ) (b x y : Plugged) (served : Served)
-    → o ≡ position_from (is_plugged_at i) 0 ps → o ≡ Some n → zs ≡ ps
-    → x ≡ b → b ≡ get_or zs n b
-    → served ≡ (module_serve x.body cport kind payload).served
-    → y ≡ record x { body = (module_serve x.body cport kind payload).after }
-    → ServesThere i cport kind payload (module_at i ps) ps (set zs n y) (Ok (Some served))
-one-serves i cport kind payload ps zs o n b x y served first is view same at answer after =
+-- a part, by what the code has of it
+abbrev pub part_of : ℕ → ℕ → ℕ → Module → Plugged
+part_of intf primary count body =
+    record { intf = intf; primary = primary; count = count; body = body }
+
+-- The part at a place is that of an interface, whose module may be changed.
+pub record IsPlaced (i : ℕ) (ps zs : List Plugged) (n : ℕ) (x : Plugged) : Type 0 where
+  pub found : module_at i ps ≡ Some x.body
+  pub changed : (m : Module) → set zs n (record x { body = m }) ≡ with_module i m ps
+  pub kept : (m : Module) → m ≡ x.body → set zs n (record x { body = m }) ≡ ps
+
+pub is-placed : (i : ℕ) (ps zs : List Plugged) (o : Option ℕ) (n : ℕ) (b x : Plugged)
+    → o ≡ position_from (is_plugged_at i) 0 ps → o ≡ Some n → zs ≡ ps → x ≡ b → b ≡ get_or zs n b
+    → IsPlaced i ps zs n x
+is-placed i ps zs o n b x first is view same at =
     let stands = standing (is_plugged_at i) ps n (sym first ∙ is) in
     let here : get_or ps n x ≡ x =
-    sym (same ∙ at ∙ ap (get_or zs n) (sym same) ∙ ap (λ l. get_or l n x) view) in
-    let found : module_at i ps ≡ Some x.body =
-    ap (option_map (λ (p : Plugged). p.body)) (stands.found x ∙ ap Some here) in
-    let step = module_serve x.body cport kind payload in
-    subst (λ m. ServesThere i cport kind payload m ps (set zs n y) (Ok (Some served)))
-    (sym found) (
-      ap Some answer,
-      ap (λ l. set l n y) view ∙ ap (set ps n) (after
-          ∙ ap (λ (p : Plugged). record p { body = step.after }) (sym here))
-          ∙ sym (stands.changed (λ p. record p { body = step.after }) x),
-    )
-
--- The module at a place is changed, which is that of an interface.
-pub record IsChanged (i : ℕ) (ps zs : List Plugged) (body m : Module) : Type 0 where
-  pub found : module_at i ps ≡ Some body
-  pub changed : zs ≡ with_module i m ps
-  pub kept : m ≡ body → zs ≡ ps
-
-pub is-changed : (i : ℕ) (ps zs : List Plugged) (o : Option ℕ) (n : ℕ) (b x : Plugged) (m : Module)
-    → o ≡ position_from (is_plugged_at i) 0 ps → o ≡ Some n → zs ≡ ps
-    → x ≡ b → b ≡ get_or zs n b → IsChanged i ps (set zs n (record x { body = m })) x.body m
-is-changed i ps zs o n b x m first is view same at =
-    let stands = standing (is_plugged_at i) ps n (sym first ∙ is) in
-    let here : get_or ps n x ≡ x =
-    sym (same ∙ at ∙ ap (get_or zs n) (sym same) ∙ ap (λ l. get_or l n x) view) in
-    let y : Plugged = record x { body = m } in record {
-      found =
-          ap (option_map (λ (p : Plugged). p.body)) (stands.found x ∙ ap Some here);
-      changed =
-          ap (λ l. set l n y) view
+    sym (same ∙ at ∙ ap (get_or zs n) (sym same) ∙ ap (λ l. get_or l n x) view) in record {
+      found = ap (option_map (λ (p : Plugged). p.body)) (stands.found x ∙ ap Some here);
+      changed = λ m.
+          ap (λ l. set l n (record x { body = m })) view
           ∙ ap (λ (p : Plugged). set ps n (record p { body = m })) (sym here)
           ∙ sym (stands.changed (λ p. record p { body = m }) x);
-      kept = λ e.
-          ap (λ l. set l n y) view ∙ ap (λ k. set ps n (record x { body = k })) e
+      kept = λ m e.
+          ap (λ l. set l n (record x { body = m })) view
+          ∙ ap (λ k. set ps n (record x { body = k })) e
           ∙ ap (set ps n) (sym here) ∙ set-get_or ps n x;
     }
+
+-- the module at a place serves
+pub one-serves : (i cport kind : ℕ) (payload : List ℕ) {ps zs : List Plugged} {n : ℕ} {x : Plugged}
+    (m : Module) (served : Served) → IsPlaced i ps zs n x
+    → served ≡ (module_serve x.body cport kind payload).served
+    → m ≡ (module_serve x.body cport kind payload).after
+    → ServesThere i cport kind payload (module_at i ps) ps (set zs n (record x { body = m }))
+    (Ok (Some served))
+one-serves i cport kind payload {ps} {zs} {n} {x} m served one answer after =
+    subst (λ o. ServesThere i cport kind payload o ps (set zs n (record x { body = m }))
+    (Ok (Some served))) (sym one.found)
+    (ap Some answer, one.changed m ∙ ap (λ k. with_module i k ps) after)
 
 -- ---- the interfaces of a module
 

@@ -1,5 +1,5 @@
 -- The downloads of the modules that are plugged, by their places.
-use Rattle.std.proofs.Common.{◌≡◌, ℕ, Bool, Option, Some, None, Ok, List, get_or, set, refl}
+use Rattle.std.proofs.Common.{◌≡◌, ℕ, Bool, Option, Some, None, Ok, List, set, refl}
 use Rattle.std.proofs.Common.{sym, ap, ◌∙◌, subst}
 use Rattle.std.specs.Prelude.{option_and_then}
 use Rattle.std.specs.List.{position_from}
@@ -12,7 +12,7 @@ use Rattle.gb_formats.specs.ModuleLoads.{ModuleLoaded, module_load}
 use Rattle.gb_machine.specs.Modules.{is_plugged_at, module_at, with_module}
 use Rattle.gb_machine.specs.State.{Plugged}
 use Rattle.gb_module.specs.Loading.{EndsAs, load_refusal}
-use Rattle.gb_system.proofs.Plugged.{is-changed, none-there}
+use Rattle.gb_system.proofs.Plugged.{IsPlaced, none-there}
 use Rattle.gb_system.specs.Loading.{BeginsAt, LoadsAt, LoadsThere, follows_at, module_refusal}
 
 -- ---- the end of a request
@@ -34,17 +34,16 @@ ends-at i answer body m ps zs (Some next) ends changed kept =
     subst (λ o. LoadsAt i o ps zs (Some next)) (sym ends) (refl, changed)
 
 -- the module at a place goes on
-pub one-ends : (i c : ℕ) (how : Outcome) (can : Bool) (ps zs : List Plugged) (o : Option ℕ) (n : ℕ)
-    (b x : Plugged) (m : Module) (result : Option Next)
-    → o ≡ position_from (is_plugged_at i) 0 ps → o ≡ Some n → zs ≡ ps
-    → x ≡ b → b ≡ get_or zs n b → EndsAs (follows_at can c how x.body) x.body m (Ok result)
+pub one-ends : (i c : ℕ) (how : Outcome) (can : Bool) {ps zs : List Plugged} {n : ℕ} {x : Plugged}
+    (m : Module) (result : Option Next) → IsPlaced i ps zs n x
+    → EndsAs (follows_at can c how x.body) x.body m (Ok result)
     → LoadsThere can i c how ps (set zs n (record x { body = m })) result
-one-ends i c how can ps zs o n b x m result first is view same at ends =
-    let one = is-changed i ps zs o n b x m first is view same at in
+one-ends i c how can {ps} {zs} {n} {x} m result one ends =
     let after = set zs n (record x { body = m }) in
     subst (λ p. LoadsAt i (option_and_then (follows_at can c how) p) ps after result)
     (sym one.found)
-    (ends-at i (follows_at can c how x.body) x.body m ps after result ends one.changed one.kept)
+    (ends-at i (follows_at can c how x.body) x.body m ps after result ends (one.changed m)
+    (one.kept m))
 
 -- ---- a load
 
@@ -56,21 +55,14 @@ none-begins i c ps o first is free =
     cc (ap (λ m. module_refusal m c) (none-there i ps o first is), free)
 
 -- and it can begin there
-pub one-free : (i c : ℕ) (ps zs : List Plugged) (o : Option ℕ) (n : ℕ) (b x : Plugged)
-    → o ≡ position_from (is_plugged_at i) 0 ps → o ≡ Some n → zs ≡ ps → x ≡ b → b ≡ get_or zs n b
+pub one-free : (i c : ℕ) {ps zs : List Plugged} {n : ℕ} {x : Plugged} → IsPlaced i ps zs n x
     → module_refusal (module_at i ps) c ≡ None → load_refusal x.body c ≡ None
-one-free i c ps zs o n b x first is view same at free =
-    let one = is-changed i ps zs o n b x x.body first is view same at in
-    sym (ap (λ m. module_refusal m c) one.found) ∙ free
+one-free i c one free = sym (ap (λ m. module_refusal m c) one.found) ∙ free
 
 -- the module at a place begins
-pub one-begins : (i c : ℕ) (tag : List ℕ) (ps zs : List Plugged) (o : Option ℕ) (n : ℕ)
-    (b x : Plugged) (m : Module) (own : OwnAsk)
-    → o ≡ position_from (is_plugged_at i) 0 ps → o ≡ Some n → zs ≡ ps
-    → x ≡ b → b ≡ get_or zs n b → own ≡ find_ask tag → m ≡ module_load x.body c tag
+pub one-begins : (i c : ℕ) (tag : List ℕ) {ps zs : List Plugged} {n : ℕ} {x : Plugged} (m : Module)
+    (own : OwnAsk) → IsPlaced i ps zs n x → own ≡ find_ask tag → m ≡ module_load x.body c tag
     → BeginsAt i c tag (module_at i ps) ps (set zs n (record x { body = m })) own
-one-begins i c tag ps zs o n b x m own first is view same at asks begins =
-    let one = is-changed i ps zs o n b x m first is view same at in
-    let after = set zs n (record x { body = m }) in
-    subst (λ p. BeginsAt i c tag p ps after own) (sym one.found)
-    (asks, one.changed ∙ ap (λ k. with_module i k ps) begins)
+one-begins i c tag {ps} {zs} {n} {x} m own one asks begins =
+    subst (λ p. BeginsAt i c tag p ps (set zs n (record x { body = m })) own) (sym one.found)
+    (asks, one.changed m ∙ ap (λ k. with_module i k ps) begins)

@@ -26,6 +26,8 @@ use Rattle.gb_system.proofs.Doings.{does-by_state, does-change, does-then}
 use Rattle.gb_system.proofs.Inserts.{free-spans, inserted-kinds, inserted-raw}
 use Rattle.gb_system.proofs.Midways.{Midway, each-cons, each-nil, midway-as, midway-end}
 use Rattle.gb_system.proofs.Midways.{midway-first, midway-more}
+use Rattle.gb_system.proofs.Plugged.{part_of}
+use Rattle.gb_system.proofs.Standing.{relevelled, stands-with}
 use Rattle.gb_system.specs.Doing.{Does, IsDone}
 use Rattle.gb_system.specs.Stands.{IsShort, PartsStand, PartiesStand}
 use Rattle.gb_system.specs.declared.parties.Parties.{Parties}
@@ -36,22 +38,12 @@ pub plugged-stand : (x : Parties) (s : State) (p : Plugged) (modules : List Plug
     → PartsStand [] x s → modules ≡ plugged p x.modules → length p.body.manifest ≤ most_payload
     → switch.Stands l (powered p.intf s.ports)
     → PartsStand [] (record x { modules = modules; ladder = l }) (with_plugged p s)
-plugged-stand x s p modules l st is short ports = record {
-  bus = st.bus;
-  ports = ports;
-  modules = ap (plugged p) st.modules ∙ sym is;
-  loads = st.loads;
-  host = st.host;
-  names = st.names;
-  apart = st.apart;
-  booted = st.booted;
-  sound = st.sound;
-  short = each-from IsShort (plugged p s.modules)
-      (short-plugged p s.modules (λ q k. each-in IsShort s.modules q st.short k) short);
-  time = st.time;
-  holds = st.holds;
-  held = st.held;
-}
+plugged-stand x s p modules l st is short ports =
+    relevelled l (powered p.intf s.ports)
+    (stands-with (plugged p s.modules) modules (ap (plugged p) st.plugged.modules ∙ sym is)
+    (each-from IsShort (plugged p s.modules)
+    (short-plugged p s.modules (λ q k. each-in IsShort s.modules q st.plugged.short k) short)) st)
+    ports
 
 -- a part is plugged
 abbrev pub plugs_part : Plugged → Action
@@ -101,22 +93,12 @@ pub plugging-next : {x y : Parties} {s : State} {told : List Entry} (primary cou
     (m : Module) {all : List Module} (left : List Module) → i < count
     → (g : IsPlugging x s primary count i all (m ∷ left) told)
     → ((t : State) → PartsStand [] x t → is_powered (primary + i) t.ports ≡ false
-    → PartsStand [] y (with_plugged (record {
-      intf = primary + i;
-      primary = primary;
-      count = count;
-      body = m;
-    }) t))
+    → PartsStand [] y (with_plugged (part_of (primary + i) primary count m) t))
     → IsPlugging y s primary count (i + 1) all left told
 plugging-next {x} {y} {s} {told} primary count i m {all} left within g stand =
     let next : (primary + i) + 1 ≡ primary + (i + 1) = omega arith in
     let t = g.midway.state in
-    let p : Plugged = record {
-      intf = primary + i;
-      primary = primary;
-      count = count;
-      body = m;
-    } in
+    let p = part_of (primary + i) primary count m in
     let free = g.free (primary + i) (omega arith) (omega (arith, within)) in
     let d = does-change (with_plugged p) (stand t g.midway.stand free) in
     let rest = each (parts_from (primary + (i + 1)) primary count left) plugs_part in record {
@@ -156,6 +138,13 @@ free-of : (s : State) (i count : ℕ) (manifest : List ℕ)
 free-of s i count manifest allowed =
     (unmet (insert_conditions s i count manifest) (sym allowed)).1.0
 
+-- a part whose manifest fits is plugged at an interface without power
+abbrev pub PlugsOne : Parties → Parties → ℕ → ℕ → ℕ → Module → Type 0
+PlugsOne x y intf primary count m =
+    (t : State) → PartsStand [] x t → is_powered intf t.ports ≡ false
+    → length m.manifest ≤ most_payload
+    → PartsStand [] y (with_plugged (part_of intf primary count m) t)
+
 -- at first no part is plugged
 pub kinds-first : {x : Parties} {s : State} {told : List Entry} (i count : ℕ) (kinds : List Kind)
     → PartiesStand x s → count ≡ length kinds
@@ -171,14 +160,7 @@ pub kinds-next : {x y : Parties} {s : State} {told : List Entry} (primary count 
     → m ≡ module_of_kind (get_or kinds i d)
     → IsPlugging x s primary count i (map module_of_kind kinds)
     (map module_of_kind (drop i kinds)) told
-    → ((t : State) → PartsStand [] x t → is_powered (primary + i) t.ports ≡ false
-    → length m.manifest ≤ most_payload
-    → PartsStand [] y (with_plugged (record {
-      intf = primary + i;
-      primary = primary;
-      count = count;
-      body = m;
-    }) t))
+    → PlugsOne x y (primary + i) primary count m
     → IsPlugging y s primary count (i + 1) (map module_of_kind kinds)
     (map module_of_kind (drop (i + 1) kinds)) told
 kinds-next {x} {y} {s} {told} primary count i kinds d m within same is g plugged =
@@ -213,14 +195,7 @@ kinds-done y s i count j kinds before es same allowed g past told =
 pub raw-done : {x y : Parties} (z : Parties) (s : State) (i : ℕ) (manifest : List ℕ) (m : Module)
     (before es : List Entry) → PartiesStand x s → m ≡ module_raw manifest
     → None ≡ first_met (insert_conditions s i 1 manifest)
-    → ((t : State) → PartsStand [] x t → is_powered i t.ports ≡ false
-    → length m.manifest ≤ most_payload
-    → PartsStand [] y (with_plugged (record {
-      intf = i;
-      primary = i;
-      count = 1;
-      body = m;
-    }) t))
+    → PlugsOne x y i i 1 m
     → ((t : State) → PartsStand [] y t → Does z (when t.booted (tells_inserted i 1)) t before es)
     → IsDone z s (event.InsertRaw i manifest) before es
 raw-done {x} {y} z s i manifest m before es st is allowed plugged told =
@@ -230,12 +205,7 @@ raw-done {x} {y} z s i manifest m before es st is allowed plugged told =
     let short = subst (λ (b : Module). length b.manifest ≤ most_payload) (sym is)
     (raw-short s i manifest (sym allowed)) in
     let last = plugging-next i 1 0 m [] below first (λ t stand free.
-    subst (λ k. PartsStand [] y (with_plugged (record {
-      intf = k;
-      primary = i;
-      count = 1;
-      body = m;
-    }) t)) here
+    subst (λ k. PartsStand [] y (with_plugged (part_of k i 1 m) t)) here
     (plugged t stand (subst (λ k. is_powered k t.ports ≡ false) (sym here) free) short)) in
     inserted-raw z s i manifest before es allowed
     (subst (λ (b : Module). Does z (plugs i (b ∷ [])) s before es) is

@@ -1,7 +1,8 @@
 -- Modules are pulled as the machine does.
 use Rattle.std.proofs.Common.{◌≡◌, ◌≤◌, ◌+◌, ℕ, Bool, true, false, not, Option, None, List, [], ◌∷◌}
 use Rattle.std.proofs.Common.{◌++◌, length, drop, drop_of_length-le, refl, sym, ap, ◌∙◌, subst}
-use Rattle.std.proofs.Common.{arith, cond, is_some, map, ◌<◌, ◌-◌, ◌==◌, Some, option_map}
+use Rattle.std.proofs.Common.{slice_index_or, arith, cond, is_some, map, ◌<◌, ◌-◌, ◌==◌, Some}
+use Rattle.std.proofs.Common.{option_map}
 use Rattle.gb_base.specs.declared.end.Side.TheVariants as side
 use Rattle.gb_base.specs.declared.entry.Entry.{Entry}
 use Rattle.gb_base.specs.declared.event.Event.TheVariants as event
@@ -26,9 +27,9 @@ use Rattle.gb_switch.specs.Stands as switch
 use Rattle.gb_switch.specs.declared.ladder.Ladder.{Ladder}
 use Rattle.gb_system.proofs.Doings.{does-by_state, does-change, does-then, does-given}
 use Rattle.gb_system.proofs.Midways.{Midway, each-cons, each-nil, midway-as, midway-end}
-use Rattle.gb_system.proofs.Midways.{midway-more, midway-first}
+use Rattle.gb_system.proofs.Midways.{drop-number, midway-first, midway-more}
 use Rattle.gb_system.proofs.Plugged.{span-all, span-next, span-past}
-use Rattle.gb_system.proofs.Standing.{repast}
+use Rattle.gb_system.proofs.Standing.{relevelled, replugged, repast}
 use Rattle.gb_laws.specs.Possible.{IsAskable}
 use Rattle.gb_system.specs.Doing.{Does, IsDone, IsRefused}
 use Rattle.gb_system.specs.Drafts.{own_ask}
@@ -48,6 +49,15 @@ midway-next f xs i v next m d =
     midway-more (f v) (each (drop (i + 1) xs) f)
     (midway-as (f v ▸ each (drop (i + 1) xs) f)
     (ap (λ l. each l f) next ∙ each-cons v (drop (i + 1) xs) f) m) d
+
+-- one more of these numbers
+pub midway-number : {x y : Parties} {whole : Action} {s : State} {a b c : List Entry}
+    (f : ℕ → Action) (ns : List ℕ) (i : ℕ) → i < length ns
+    → (m : Midway x whole (each (drop i ns) f) s a b)
+    → Does y (f (slice_index_or ns i 0)) m.state b c
+    → Midway y whole (each (drop (i + 1) ns) f) s a c
+midway-number f ns i within m d =
+    midway-next f ns i (slice_index_or ns i 0) (drop-number ns i within) m d
 
 -- all of them
 pub midway-all : {A : Type 0} {x : Parties} {whole : Action} {s : State} {a b : List Entry}
@@ -83,7 +93,8 @@ pub record IsPart (s : State) (i : ℕ) (m : Span) : Type 0 where
 pub part-is : {x : Parties} (s : State) (i : ℕ) (o : Option Span) (m : Span) → PartsStand [] x s
     → o ≡ option_map span_of (part_at i x.modules) → o ≡ Some m → IsPart s i m
 part-is {x} s i o m st is some = by (part_at i s.modules) refl
-    (sym some ∙ is ∙ ap (λ (ms : List Plugged). option_map span_of (part_at i ms)) (sym st.modules))
+    (sym some ∙ is
+    ∙ ap (λ (ms : List Plugged). option_map span_of (part_at i ms)) (sym st.plugged.modules))
   where
     by : (q : Option Plugged) → part_at i s.modules ≡ q → Some m ≡ option_map span_of q
         → IsPart s i m
@@ -99,7 +110,8 @@ pub pull-nothing : {x : Parties} (s : State) (i : ℕ) (o : Option Span) → Par
     → IsRefused x s (event.Pull i) why.NoInterface
 pull-nothing {x} s i o st is none = record {
   refused = refusal-by s i false (by (part_at i s.modules) refl (sym none ∙ is
-      ∙ ap (λ (ms : List Plugged). option_map span_of (part_at i ms)) (sym st.parts.modules)));
+      ∙ ap (λ (ms : List Plugged). option_map span_of (part_at i ms))
+      (sym st.parts.plugged.modules)));
   stand = st.parts;
 }
   where
@@ -134,21 +146,14 @@ pulled-stand : (x : Parties) (t : State) (i : ℕ) (modules : List Plugged) (loa
     (l : Ladder) → PartsStand [] x t → modules ≡ unplugged i x.modules
     → loads ≡ without (λ w. w.intf == i) x.loads → switch.Stands l (unpowered i t.ports)
     → PartsStand [] (record x { modules = modules; loads = loads; ladder = l }) (with_pulled i t)
-pulled-stand x t i modules loads l st is left ports = record {
-  bus = st.bus;
-  ports = ports;
-  modules = ap (unplugged i) st.modules ∙ sym is;
-  loads = ap (without (λ (w : Load). w.intf == i)) st.loads ∙ sym left;
-  host = st.host;
-  names = st.names;
-  apart = st.apart;
-  booted = st.booted;
-  sound = st.sound;
-  short = each-filter IsShort (λ p. not (is_plugged_at i p)) t.modules st.short;
-  time = st.time;
-  holds = st.holds;
-  held = st.held;
-}
+pulled-stand x t i modules loads l st is left ports =
+    repast (with_pulled i t).past
+    (relevelled l (unpowered i t.ports)
+    (replugged modules (unplugged i t.modules) loads (with_pulled i t).loads st (record {
+      modules = ap (unplugged i) st.plugged.modules ∙ sym is;
+      loads = ap (without (λ (w : Load). w.intf == i)) st.plugged.loads ∙ sym left;
+      short = each-filter IsShort (λ p. not (is_plugged_at i p)) t.modules st.plugged.short;
+    })) ports)
 
 -- What is unwired are all connections of the interface.
 pub pulled-one : (x : Parties) (s : State) (i : ℕ) (modules : List Plugged) (loads : List Load)

@@ -92,7 +92,7 @@ answered-done {x} {s} {a} {b} y k at asked code payload ends e c item st live ma
     (replies-is at c q (answer code payload) s)
     (pushed ∙ ap (λ f. a ++ f ∷ [])
     (told-is at c code payload q asked ends e may.names
-    (request-sound s.bus item q st.sound may.is).kind
+    (request-sound s.bus item q st.requests.sound may.is).kind
     (some-is ends (ends_of c) (option_map ends_of (connection_of k s.bus)) has live.ends) says))
     (rebussed [] y after st
     (subst (λ j. bus.Stands (around_bus [] s) y (replied j (other_side at) reply s.bus))

@@ -133,7 +133,7 @@ shows x s e0 e1 e2 e3 e4 e5 text known live waiting st it i1 i2 i3 i4 i5 ik il i
     shown-as x s e0 e5 st
     (i5 ∙ ap (λ es. es ++ d) (i4 ∙ ap (λ es. es ++ c) (i3 ∙ ap (λ es. es ++ b)
     (i2 ∙ ap (λ es. es ++ a) (i1
-    ∙ ap (λ t. e0 ++ entry.Shown t ∷ []) (it ∙ ap now_line (sym st.time))))))
+    ∙ ap (λ t. e0 ++ entry.Shown t ∷ []) (it ∙ ap now_line (sym st.rest.time))))))
     ∙ four-behind (e0 ++ time) a b c d ∙ append_assoc e0 time (a ++ (b ++ (c ++ d)))
     ∙ ap (λ es. e0 ++ es) (behind-time s (map interface_shown known)
     (map (known_shown (host_of x.host)) live) (map waiting_shown waiting)
@@ -163,4 +163,4 @@ shows x s e0 e1 e2 e3 e4 e5 text known live waiting st it i1 i2 i3 i4 i5 ik il i
     ec = ap (map waiting_shown) iw ∙ waiting-lines (queues s.bus)
 
     ed : map (name_shown s.bus) x.names ≡ map (name_shown s.bus) (names_in_order s)
-    ed = ap (map (name_shown s.bus)) (sym st.names)
+    ed = ap (map (name_shown s.bus)) (sym st.names.listed)

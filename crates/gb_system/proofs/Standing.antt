@@ -1,6 +1,6 @@
 -- What of a state changes, and the parties stand for it still.
-use Rattle.std.proofs.Common.{◌≡◌, ℕ, suc, ◌<◌, ◌≤◌, Some, List, [], ◌∷◌, ◌++◌, length, refl, sym}
-use Rattle.std.proofs.Common.{ap, ◌∙◌, ⊎_elim, subst, arith, length-append}
+use Rattle.std.proofs.Common.{◌≡◌, ℕ, suc, ◌<◌, ◌≤◌, Bool, Some, List, [], ◌∷◌, ◌++◌, length}
+use Rattle.std.proofs.Common.{map, refl, sym, ap, ◌∙◌, ⊎_elim, subst, arith, length-append}
 use Rattle.std.proofs.lemmas.Bool.{cases_lt}
 use Rattle.gb_bus.proofs.Loosening.{let-go}
 use Rattle.gb_bus.specs.Stands as bus
@@ -15,11 +15,14 @@ use Rattle.gb_machine.specs.Bus.{Request}
 use Rattle.gb_machine.specs.Holding.{held_on}
 use Rattle.gb_machine.specs.Host as machine_host
 use Rattle.gb_machine.specs.Lists.{nth}
-use Rattle.gb_machine.specs.State.{Held, Load, Past, Port, State}
+use Rattle.gb_machine.specs.Members.{Each}
+use Rattle.gb_machine.specs.State.{Held, Load, Past, Plugged, Port, State}
 use Rattle.gb_switch.specs.Stands as switch
 use Rattle.gb_switch.specs.declared.ladder.Ladder.{Ladder}
-use Rattle.gb_system.specs.Held.{held_at}
-use Rattle.gb_system.specs.Stands.{AreSound, HeldStand, PartsStand, StandForHeld, around_bus}
+use Rattle.gb_system.specs.Held.{held_at, is_marked}
+use Rattle.gb_system.specs.Stands.{AreSound, HeldStand, IsShort, PartsStand, PluggedStand}
+use Rattle.gb_system.specs.Stands.{RequestsStand, RestStands, StandForHeld, around_bus, held_item}
+use Rattle.gb_system.specs.Stands.{names_of}
 use Rattle.gb_system.specs.declared.held.HeldRequest.{HeldRequest}
 use Rattle.gb_system.specs.declared.held.HeldRequests.{HeldRequests}
 use Rattle.gb_system.specs.declared.parties.Parties.{Parties}
@@ -28,55 +31,58 @@ use Rattle.gb_system.specs.declared.parties.Parties.{Parties}
 pub same-sound : (b c : machine.Bus) → c.requests ≡ b.requests → AreSound b → AreSound c
 same-sound b c same sound = λ n r h. sound n r (ap (nth n) (sym same) ∙ h)
 
--- The requests of a bus are sound, and those that are held are among them.
-pub record Keeps (x : Parties) (s : State) (b : machine.Bus) : Type 0 where
-  pub sound : AreSound b
-  pub held : HeldStand b.requests x.held s.held
-
--- it is so where the same requests were made
-same-keeps : {x : Parties} {s : State} {was : List Loose} (b : machine.Bus) → PartsStand was x s
-    → b.requests ≡ s.bus.requests → Keeps x s b
-same-keeps {x} {s} b st same = record {
-  sound = same-sound s.bus b same st.sound;
-  held = subst (λ rs. HeldStand rs x.held s.held) (sym same) st.held;
+-- the same requests stand for it
+same-requests : {x : HeldRequests} {hs : List Held} (b c : machine.Bus)
+    → RequestsStand x b hs → c.requests ≡ b.requests → RequestsStand x c hs
+same-requests {x} {hs} b c h same = record {
+  sound = same-sound b c same h.sound;
+  held = subst (λ rs. HeldStand rs x hs) (sym same) h.held;
 }
 
--- The parties stand for a state with another bus, other power levels, another application processor
--- and another past.
+-- The parties stand for a state with another bus, other requests that are held, other power levels,
+-- another application processor and another past.
 pub standing : {x : Parties} {s : State} {was : List Loose} (loose : List Loose) (y : Bus)
-    (b : machine.Bus) (v : Ladder) (ports : List Port) (z : Host) (h : machine_host.Host)
-    (past : Past) → PartsStand was x s → bus.Stands (around_bus loose s) y b → Keeps x s b
-    → switch.Stands v ports → host.Stands z h
-    → PartsStand loose (record x { bus = y; ladder = v; host = z })
-    (record s { bus = b; ports = ports; host = h; past = past })
-standing loose y b v ports z h past st bus_stands keeps ladder_stands host_stands = record {
-  bus = bus_stands;
-  ports = ladder_stands;
-  modules = st.modules;
-  loads = st.loads;
-  host = host_stands;
+    (b : machine.Bus) (held : HeldRequests) (hs : List Held) (v : Ladder) (ports : List Port)
+    (z : Host) (h : machine_host.Host) (past : Past) → PartsStand was x s
+    → bus.Stands (bus.around_of (loose ++ map held_item hs) (names_of s)) y b
+    → RequestsStand held b hs → switch.Stands v ports → host.Stands z h
+    → PartsStand loose (record x { bus = y; held = held; ladder = v; host = z })
+    (record s { bus = b; held = hs; ports = ports; host = h; past = past })
+standing loose y b held hs v ports z h past st on_bus requests on_ladder on_host = record {
+  bus = on_bus;
+  requests = requests;
+  ports = on_ladder;
+  plugged = st.plugged;
+  host = on_host;
   names = st.names;
-  apart = st.apart;
-  booted = st.booted;
-  sound = keeps.sound;
-  short = st.short;
-  time = st.time;
-  holds = st.holds;
-  held = keeps.held;
+  rest = st.rest;
 }
 
 -- The parties stand for a state with another bus, on which these requests were made.
 pub requested-more : {x : Parties} {s : State} {was : List Loose} (loose : List Loose) (y : Bus)
-    (b : machine.Bus) → PartsStand was x s → bus.Stands (around_bus loose s) y b → Keeps x s b
-    → PartsStand loose (record x { bus = y }) (with_bus b s)
-requested-more {x} {s} loose y b st stands keeps =
-    standing loose y b x.ladder s.ports x.host s.host s.past st stands keeps st.ports st.host
+    (b : machine.Bus) → PartsStand was x s → bus.Stands (around_bus loose s) y b
+    → RequestsStand x.held b s.held → PartsStand loose (record x { bus = y }) (with_bus b s)
+requested-more {x} {s} loose y b st on_bus requests =
+    standing loose y b x.held s.held x.ladder s.ports x.host s.host s.past st on_bus requests
+    st.ports st.host
 
 -- The parties stand for a state with another bus, on which the same requests were made.
 pub rebussed : {x : Parties} {s : State} {was : List Loose} (loose : List Loose) (y : Bus)
     (b : machine.Bus) → PartsStand was x s → bus.Stands (around_bus loose s) y b
     → b.requests ≡ s.bus.requests → PartsStand loose (record x { bus = y }) (with_bus b s)
-rebussed loose y b st stands same = requested-more loose y b st stands (same-keeps b st same)
+rebussed {x} {s} loose y b st on_bus same =
+    requested-more loose y b st on_bus (same-requests s.bus b st.requests same)
+
+-- The parties stand for a state with other requests that are held, and another bus and items.
+pub reheld : {x : Parties} {s : State} {was : List Loose} (loose : List Loose) (y : Bus)
+    (b : machine.Bus) (held : HeldRequests) (hs : List Held) → PartsStand was x s
+    → bus.Stands (bus.around_of (loose ++ map held_item hs) (names_of s)) y b
+    → b.requests ≡ s.bus.requests → HeldStand s.bus.requests held hs
+    → PartsStand loose (record x { bus = y; held = held }) (record s { bus = b; held = hs })
+reheld {x} {s} loose y b held hs st on_bus same kept =
+    standing loose y b held hs x.ladder s.ports x.host s.host s.past st on_bus
+    (same-requests s.bus b (record { sound = st.requests.sound; held = kept }) same) st.ports
+    st.host
 
 -- An item is let go.
 pub let-gone : {x : Parties} {s : State} (l : Loose) (loose : List Loose)
@@ -132,41 +138,82 @@ held-stand-more rs q x hs h = λ k. held-more rs q (held_at x k) (held_on k hs) 
 pub rehosted : {x : Parties} {s : State} {loose : List Loose} (y : Host) (h : machine_host.Host)
     → PartsStand loose x s → host.Stands y h
     → PartsStand loose (record x { host = y }) (record s { host = h })
-rehosted {x} {s} {loose} y h st stands =
-    standing loose x.bus s.bus x.ladder s.ports y h s.past st st.bus (same-keeps s.bus st refl)
-    st.ports stands
+rehosted {x} {s} {loose} y h st on_host =
+    standing loose x.bus s.bus x.held s.held x.ladder s.ports y h s.past st st.bus st.requests
+    st.ports on_host
 
 -- The past is no matter of theirs.
 pub repast : {x : Parties} {s : State} {loose : List Loose} (past : Past) → PartsStand loose x s
     → PartsStand loose x (record s { past = past })
 repast {x} {s} {loose} past st =
-    standing loose x.bus s.bus x.ladder s.ports x.host s.host past st st.bus
-    (same-keeps s.bus st refl) st.ports st.host
+    standing loose x.bus s.bus x.held s.held x.ladder s.ports x.host s.host past st st.bus
+    st.requests st.ports st.host
 
 -- The parties stand for a state with other power levels.
 pub relevelled : {x : Parties} {s : State} {loose : List Loose} (y : Ladder) (ports : List Port)
     → PartsStand loose x s → switch.Stands y ports
     → PartsStand loose (record x { ladder = y }) (record s { ports = ports })
-relevelled {x} {s} {loose} y ports st stands =
-    standing loose x.bus s.bus y ports x.host s.host s.past st st.bus
-    (same-keeps s.bus st refl) stands st.host
+relevelled {x} {s} {loose} y ports st on_ladder =
+    standing loose x.bus s.bus x.held s.held y ports x.host s.host s.past st st.bus st.requests
+    on_ladder st.host
+
+-- The parties stand for a state with other modules and other last requests of firmware devices.
+pub replugged : {x : Parties} {s : State} {loose : List Loose} (mods ms : List Plugged)
+    (last ls : List Load) → PartsStand loose x s → PluggedStand mods last ms ls
+    → PartsStand loose (record x { modules = mods; loads = last })
+    (record s { modules = ms; loads = ls })
+replugged mods ms last ls st plugged = record {
+  bus = st.bus;
+  requests = st.requests;
+  ports = st.ports;
+  plugged = plugged;
+  host = st.host;
+  names = st.names;
+  rest = st.rest;
+}
+
+-- The parties stand for a state with other modules.
+pub stands-with : {x : Parties} {s : State} {loose : List Loose} (ms mods : List Plugged)
+    → ms ≡ mods → Each IsShort ms → PartsStand loose x s
+    → PartsStand loose (record x { modules = mods }) (record s { modules = ms })
+stands-with {x} {s} ms mods same short st =
+    replugged mods ms x.loads s.loads st
+    (record { modules = same; loads = st.plugged.loads; short = short })
+
+-- They do where the modules are the same.
+pub modules-stay : {x : Parties} {s : State} {loose : List Loose} (mods : List Plugged)
+    → mods ≡ x.modules → PartsStand loose x s → PartsStand loose (record x { modules = mods }) s
+modules-stay {x} {s} mods same st =
+    stands-with s.modules mods (st.plugged.modules ∙ sym same) st.plugged.short st
 
 -- The parties stand for a state with other last requests of firmware devices.
 pub reloaded : {x : Parties} {s : State} {loose : List Loose} (loads ls : List Load)
     → PartsStand loose x s → ls ≡ loads
     → PartsStand loose (record x { loads = loads }) (record s { loads = ls })
-reloaded loads ls st same = record {
+reloaded {x} {s} loads ls st same =
+    replugged x.modules s.modules loads ls st
+    (record { modules = st.plugged.modules; loads = same; short = st.plugged.short })
+
+-- The parties stand for a state with another start, time and hold marks.
+pub rested : {x : Parties} {s : State} {loose : List Loose} (begun : Bool) (clock : ℕ)
+    (marks : List ℕ) (b : Bool) (now : ℕ) (ks : List ℕ) → PartsStand loose x s
+    → RestStands begun clock marks b now ks
+    → PartsStand loose (record x { booted = begun; time = clock; holds = marks })
+    (record s { booted = b; now = now; holds = ks })
+rested begun clock marks b now ks st rest = record {
   bus = st.bus;
+  requests = st.requests;
   ports = st.ports;
-  modules = st.modules;
-  loads = same;
+  plugged = st.plugged;
   host = st.host;
   names = st.names;
-  apart = st.apart;
-  booted = st.booted;
-  sound = st.sound;
-  short = st.short;
-  time = st.time;
-  holds = st.holds;
-  held = st.held;
+  rest = rest;
 }
+
+-- The parties stand for a state with other hold marks.
+pub remarked : {x : Parties} {s : State} {loose : List Loose} (marks ks : List ℕ)
+    → PartsStand loose x s → ((k : ℕ) → is_marked k ks ≡ is_marked k marks)
+    → PartsStand loose (record x { holds = marks }) (record s { holds = ks })
+remarked {x} {s} marks ks st alike =
+    rested x.booted x.time marks s.booted s.now ks st
+    (record { booted = st.rest.booted; time = st.rest.time; holds = alike })

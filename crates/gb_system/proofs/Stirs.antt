@@ -1,6 +1,6 @@
 -- What comes to modules from outside.
 use Rattle.std.proofs.Common.{◌≡◌, ◌≤◌, ℕ, Option, Some, None, is_none, option_map, Result, Ok, Err}
-use Rattle.std.proofs.Common.{List, [], ◌∷◌, length, get_or, set, refl, sym, ap, ◌∙◌, subst}
+use Rattle.std.proofs.Common.{List, [], ◌∷◌, length, set, refl, sym, ap, ◌∙◌, subst}
 use Rattle.std.specs.Prelude.{option_and_then}
 use Rattle.std.specs.List.{position_from}
 use Rattle.gb_base.specs.declared.entry.Entry.{Entry}
@@ -33,8 +33,9 @@ use Rattle.gb_module.specs.declared.stir.StirFault.TheVariants as fault
 use Rattle.gb_system.proofs.Doings.{does-by_state, does-change}
 use Rattle.gb_system.proofs.Doings.{does-given, does-given_none, does-then}
 use Rattle.gb_system.proofs.Fits.{stir-asks}
-use Rattle.gb_system.proofs.ModuleServes.{short-at, short-with, stands-with, with_modules}
-use Rattle.gb_system.proofs.Plugged.{is-changed, none-there}
+use Rattle.gb_system.proofs.ModuleServes.{short-at, short-with, with_modules}
+use Rattle.gb_system.proofs.Plugged.{IsPlaced, none-there}
+use Rattle.gb_system.proofs.Standing.{modules-stay, stands-with}
 use Rattle.gb_system.specs.Acting.{AreAskable}
 use Rattle.gb_system.specs.Doing.{Does, IsDone, IsRefused}
 use Rattle.gb_system.specs.Plugging.{StirsAt, StirsThere, event_of_stir}
@@ -70,16 +71,15 @@ stirs-at i None x y ps zs (Err (fault.Memory refused)) h changed kept = absurd (
 stirs-at i (Some t) x y ps zs (Err (fault.Memory refused)) h changed kept = kept h.1
 
 -- the module at a place is stirred
-pub one-stirs : (i c : ℕ) (what : Stir) (ps zs : List Plugged) (o : Option ℕ) (n : ℕ)
-    (b x : Plugged) (m : Module) (r : Result (List OwnAsk) StirFault)
-    → o ≡ position_from (is_plugged_at i) 0 ps → o ≡ Some n → zs ≡ ps
-    → x ≡ b → b ≡ get_or zs n b → StirsAs (module_stir x.body c what) x.body m r
+pub one-stirs : (i c : ℕ) (what : Stir) {ps zs : List Plugged} {n : ℕ} {x : Plugged} (m : Module)
+    (r : Result (List OwnAsk) StirFault) → IsPlaced i ps zs n x
+    → StirsAs (module_stir x.body c what) x.body m r
     → StirsThere i c what (module_at i ps) ps (set zs n (record x { body = m })) (of_all r)
-one-stirs i c what ps zs o n b x m r first is view same at stirred =
-    let one = is-changed i ps zs o n b x m first is view same at in
+one-stirs i c what {ps} {zs} {n} {x} m r one stirred =
     let after = set zs n (record x { body = m }) in
     subst (λ o. StirsThere i c what o ps after (of_all r)) (sym one.found)
-    (stirs-at i (module_stir x.body c what) x.body m ps after r stirred one.changed one.kept)
+    (stirs-at i (module_stir x.body c what) x.body m ps after r stirred (one.changed m)
+    (one.kept m))
 
 -- ---- the event
 
@@ -107,13 +107,7 @@ refusal-is : (x : Parties) (i c : ℕ) (what : code.Stir) (s : State) → Partie
     ≡ first_met (refusals_by c (stir_of what) (module_at i x.modules))
 refusal-is x i c what s st =
     refuses-stir i c what s
-    ∙ ap (λ ms. first_met (refusals_by c (stir_of what) (module_at i ms))) st.parts.modules
-
--- the parties stand for the state where the modules are the same
-stand-still : (x : Parties) (s : State) (mods : List Plugged) → mods ≡ x.modules
-    → PartsStand [] x s → PartsStand [] (record x { modules = mods }) s
-stand-still x s mods same st =
-    stands-with s.modules mods (st.modules ∙ sym same) st.short st
+    ∙ ap (λ ms. first_met (refusals_by c (stir_of what) (module_at i ms))) st.parts.plugged.modules
 
 -- none is plugged at the interface
 pub stir-nowhere : (x : Parties) (s : State) (i c : ℕ) (what : code.Stir) (mods : List Plugged)
@@ -129,7 +123,7 @@ stir-nowhere x s i c what mods st h = by (module_at i x.modules) refl h
       refused =
           refusal-is x i c what s st
           ∙ ap (λ o. first_met (refusals_by c (stir_of what) o)) there;
-      stand = stand-still x s mods t.1 st.parts;
+      stand = modules-stay mods t.1 st.parts;
     }
     by (Some m) there t = absurd (no (module_stir m c (stir_of what)) t)
       where
@@ -158,7 +152,7 @@ stir-unfit x s i c what mods st h = by (module_at i x.modules) refl h
               refusal-is x i c what s st
               ∙ ap (λ o. first_met (refusals_by c (stir_of what) o)) there
               ∙ ap (λ o. first_met ((is_none o, why.NoCport) ∷ [])) none;
-          stand = stand-still x s mods u.1 st.parts;
+          stand = modules-stay mods u.1 st.parts;
         }
         at (Some v) some u = absurd u
 
@@ -228,7 +222,7 @@ stir-done x y s i c what mods own o before es st h names asks still =
     by (Some m) there t = at (module_stir m c (stir_of what)) refl t
       where
         found : module_at i s.modules ≡ Some m
-        found = ap (module_at i) st.parts.modules ∙ there
+        found = ap (module_at i) st.parts.plugged.modules ∙ there
 
         at : (v : Option (Stirred Module)) → module_stir m c (stir_of what) ≡ v
             → StirsAt i v x.modules mods (Ok (Some own)) → IsDone y s e before es
@@ -255,13 +249,13 @@ stir-done x y s i c what mods own o before es st h names asks still =
             short =
                 subst (λ (bytes : List ℕ). length bytes ≤ most_payload)
                 (sym (stir-manifest m c (stir_of what) v some))
-                (short-at i s.modules m st.parts.short found)
+                (short-at i s.modules m st.parts.plugged.short found)
 
             stand : PartsStand [] (record x { modules = mods }) t1
             stand =
                 stands-with (with_module i v.after s.modules) mods
-                (ap (with_module i v.after) st.parts.modules ∙ sym u.1)
-                (short-with i v.after s.modules short st.parts.short) st.parts
+                (ap (with_module i v.after) st.parts.plugged.modules ∙ sym u.1)
+                (short-with i v.after s.modules short st.parts.plugged.short) st.parts
 
             askable : AreAskable own
             askable = subst AreAskable (sym own_is) (stir-asks m c (stir_of what) v some)

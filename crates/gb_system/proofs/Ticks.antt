@@ -24,7 +24,7 @@ use Rattle.gb_machine.specs.State.{State}
 use Rattle.gb_system.proofs.Doings.{does-by_state, does-change, does-then}
 use Rattle.gb_system.proofs.Midways.{Midway, each-cons, midway-as, midway-first, midway-more}
 use Rattle.gb_system.proofs.NamedRequests.{does-gives_up}
-use Rattle.gb_system.proofs.Standing.{rebussed}
+use Rattle.gb_system.proofs.Standing.{rebussed, rested}
 use Rattle.gb_system.proofs.Endings.{lost}
 use Rattle.gb_system.specs.Doing.{Does, IsDone}
 use Rattle.gb_system.specs.Ending.{IsAwaited}
@@ -72,21 +72,12 @@ pub record MidTick (x : Parties) (s : State) (millis : ℕ) (all left : List ℕ
 -- the parties stand for the time that is passed
 pub later-stand : {x : Parties} {s : State} (millis time : ℕ) → PartsStand [] x s
     → time ≡ x.time + millis → PartsStand [] (record x { time = time }) (later_by millis s)
-later-stand {x} {s} millis time st is = record {
-  bus = st.bus;
-  ports = st.ports;
-  modules = st.modules;
-  loads = st.loads;
-  host = st.host;
-  names = st.names;
-  apart = st.apart;
-  booted = st.booted;
-  sound = st.sound;
-  short = st.short;
-  time = ap (λ n. n + millis) st.time ∙ sym is;
-  holds = st.holds;
-  held = st.held;
-}
+later-stand {x} {s} millis time st is =
+    rested x.booted time x.holds s.booted (s.now + millis) s.holds st (record {
+      booted = st.rest.booted;
+      time = ap (λ n. n + millis) st.rest.time ∙ sym is;
+      holds = st.rest.holds;
+    })
 
 -- which requests are due at a time
 abbrev pub due_at : ℕ → State → List ℕ
@@ -97,7 +88,7 @@ pub due-are : {x : Parties} (s : State) (millis time : ℕ) → PartsStand [] x 
     → time ≡ x.time + millis
     → open_requests (is_due time) s.bus ≡ due_at (s.now + millis) s
 due-are s millis time st is =
-    ap (λ n. due_at n s) (is ∙ sym (ap (λ n. n + millis) st.time))
+    ap (λ n. due_at n s) (is ∙ sym (ap (λ n. n + millis) st.rest.time))
 
 -- at first all are left
 pub mid-first : {x : Parties} {s : State} {a : List Entry} (run : OfARun s) (millis : ℕ)

@@ -122,88 +122,6 @@ goes-by s name (end.Ap a) kind payload why is = tt
 goes-by s name (end.Module i c) kind payload why is =
     all-is s name (end.Module i c) kind payload tt ∙ is tt
 
--- a free name decides nothing
-late-name : (x : Parties) (s : State) (name : Name) (to : End) (kind : ℕ) (payload : List ℕ)
-    → PartiesStand x s → is_some (named name x.names) ≡ false
-    → first_met (all_conditions s name to kind payload)
-    ≡ first_met (way_conditions to kind s.host ++ rest_to s to payload)
-late-name x s name to kind payload st free =
-    ap (λ b. cond b (Some why.Occupied)
-    (first_met (way_conditions to kind s.host ++ rest_to s to payload)))
-    (ap is_some (named-is x s name st) ∙ free)
-
--- the name isn't free
-pub goes-occupied : (x : Parties) (s : State) (name : Name) (to : End) (kind : ℕ)
-    (payload : List ℕ) → PartiesStand x s → is_some (named name x.names) ≡ true
-    → GoesAs s name to kind payload (Err why.Occupied)
-goes-occupied x s name to kind payload st taken =
-    goes-by s name to kind payload why.Occupied (λ out.
-    ap (λ b. cond b (Some why.Occupied)
-    (first_met (way_conditions to kind s.host ++ rest_to s to payload)))
-    (ap is_some (named-is x s name st) ∙ taken))
-
--- there is no way
-pub goes-nowhere : (x : Parties) (s : State) (name : Name) (to : End) (kind : ℕ)
-    (payload : List ℕ) (why : Refusal) → PartiesStand x s
-    → is_some (named name x.names) ≡ false → LeadsAs s.host to kind (Err why)
-    → GoesAs s name to kind payload (Err why)
-goes-nowhere x s name to kind payload why st free is =
-    goes-by s name to kind payload why (λ out.
-    late-name x s name to kind payload st free
-    ∙ met-early (way_conditions to kind s.host) (rest_to s to payload) why is)
-
--- with a way, its connection decides
-late-way : (x : Parties) (s : State) (name : Name) (to : End) (kind : ℕ) (payload : List ℕ)
-    (k : ℕ) → PartiesStand x s → is_some (named name x.names) ≡ false
-    → LeadsAs s.host to kind (Ok k) → IsOut to
-    → first_met (all_conditions s name to kind payload) ≡ first_met (rest_on payload s.bus k)
-late-way x s name to kind payload k st free is out =
-    late-name x s name to kind payload st free
-    ∙ met-late (way_conditions to kind s.host) (rest_to s to payload) is.0
-    ∙ rest-is s to payload k out is.1
-
-short-is : (payload : List ℕ) → length payload ≤ 2040 → is_long_payload payload ≡ false
-short-is payload h = grind (arith, nat_tests, h)
-
--- a payload that isn't leaves the identifier
-late-label : (payload : List ℕ) (b : Bus) (k : ℕ) → length payload ≤ 2040
-    → first_met (rest_on payload b k)
-    ≡ first_met ((is_none (next_label k side.Ap b), why.NoLabel) ∷ [])
-late-label payload b k short =
-    ap (λ t. first_met ((t, why.TooLarge)
-    ∷ (is_none (next_label k side.Ap b), why.NoLabel) ∷ [])) (short-is payload short)
-
-long-is : (payload : List ℕ) → 2040 < length payload → is_long_payload payload ≡ true
-long-is payload h = grind (arith, nat_tests, h)
-
--- the payload is too long
-pub goes-long : (x : Parties) (s : State) (name : Name) (to : End) (kind : ℕ) (payload : List ℕ)
-    (k : ℕ) → PartiesStand x s → is_some (named name x.names) ≡ false
-    → LeadsAs s.host to kind (Ok k) → 2040 < length payload
-    → GoesAs s name to kind payload (Err why.TooLarge)
-goes-long x s name to kind payload k st free is long =
-    goes-by s name to kind payload why.TooLarge (λ out.
-    late-way x s name to kind payload k st free is out
-    ∙ ap (λ t. first_met ((t, why.TooLarge)
-    ∷ (is_none (next_label k side.Ap s.bus), why.NoLabel) ∷ [])) (long-is payload long))
-
--- no identifier is left
-pub goes-spent : (x : Parties) (s : State) (name : Name) (to : End) (kind : ℕ) (payload : List ℕ)
-    (k : ℕ) (spent : Bool) → PartiesStand x s → is_some (named name x.names) ≡ false
-    → LeadsAs s.host to kind (Ok k) → length payload ≤ 2040
-    → spent ≡ is_none (next_label k side.Ap s.bus) → spent ≡ true
-    → GoesAs s name to kind payload (Err why.NoLabel)
-goes-spent x s name to kind payload k spent st free is short by it =
-    goes-by s name to kind payload why.NoLabel (λ out.
-    late-way x s name to kind payload k st free is out ∙ late-label payload s.bus k short
-    ∙ ap (λ t. first_met ((t, why.NoLabel) ∷ [])) (sym by ∙ it))
-
--- what is there
-pub is-there : {A : Type 0} (o : Option A) → is_none o ≡ false → IsSome o
-is-there None h = absurd (cc (h))
-is-there (Some n) h = refl
-
--- of an end of the application processor nothing is said
 goes-out : (s : State) (name : Name) (to : End) (kind : ℕ) (payload : List ℕ) (k : ℕ)
     → (IsOut to → (first_met (all_conditions s name to kind payload) ≡ None)
     × IsWay to s.host k × IsSome (next_label k side.Ap s.bus))
@@ -213,16 +131,75 @@ goes-out s name (end.Ap a) kind payload k is = tt
 goes-out s name (end.Module i c) kind payload k is =
     let it = is tt in (all-is s name (end.Module i c) kind payload tt ∙ it.0, it.1, it.2)
 
--- the request goes
-pub goes : (x : Parties) (s : State) (name : Name) (to : End) (kind : ℕ) (payload : List ℕ)
-    (k : ℕ) (spent : Bool) → PartiesStand x s → is_some (named name x.names) ≡ false
-    → LeadsAs s.host to kind (Ok k) → length payload ≤ 2040
-    → spent ≡ is_none (next_label k side.Ap s.bus) → spent ≡ false
-    → GoesAs s name to kind payload (Ok k)
-goes x s name to kind payload k spent st free is short by it =
-    goes-out s name to kind payload k (λ out. (
-      late-way x s name to kind payload k st free is out ∙ late-label payload s.bus k short
-          ∙ ap (λ t. first_met ((t, why.NoLabel) ∷ [])) (sym by ∙ it),
-      is.1,
-      is-there (next_label k side.Ap s.bus) (sym by ∙ it),
-    ))
+-- what is there
+pub is-there : {A : Type 0} (o : Option A) → is_none o ≡ false → IsSome o
+is-there None h = absurd (cc (h))
+is-there (Some n) h = refl
+
+-- a payload that is too long, or isn't
+short-is : (payload : List ℕ) → length payload ≤ 2040 → is_long_payload payload ≡ false
+short-is payload h = grind (arith, nat_tests, h)
+
+long-is : (payload : List ℕ) → 2040 < length payload → is_long_payload payload ≡ true
+long-is payload h = grind (arith, nat_tests, h)
+
+module _ (x : Parties) (s : State) (st : PartiesStand x s) (name : Name) (to : End) (kind : ℕ)
+    (payload : List ℕ) where
+  by-name : (bound : Bool) → is_some (named name x.names) ≡ bound
+      → first_met (all_conditions s name to kind payload) ≡ cond bound (Some why.Occupied)
+      (first_met (way_conditions to kind s.host ++ rest_to s to payload))
+  by-name bound is =
+      ap (λ b. cond b (Some why.Occupied)
+      (first_met (way_conditions to kind s.host ++ rest_to s to payload)))
+      (ap is_some (named-is x s name st) ∙ is)
+
+  -- the name isn't free
+  pub goes-occupied : is_some (named name x.names) ≡ true
+      → GoesAs s name to kind payload (Err why.Occupied)
+  goes-occupied taken = goes-by s name to kind payload why.Occupied (λ out. by-name true taken)
+
+  module _ (free : is_some (named name x.names) ≡ false) where
+    -- there is no way
+    pub goes-nowhere : (reason : Refusal) → LeadsAs s.host to kind (Err reason)
+        → GoesAs s name to kind payload (Err reason)
+    goes-nowhere reason is =
+        goes-by s name to kind payload reason (λ out.
+        by-name false free
+        ∙ met-early (way_conditions to kind s.host) (rest_to s to payload) reason is)
+
+    module _ (k : ℕ) (is : LeadsAs s.host to kind (Ok k)) where
+      -- with a way, its connection decides
+      by-way : (long spent : Bool) → is_long_payload payload ≡ long
+          → is_none (next_label k side.Ap s.bus) ≡ spent → IsOut to
+          → first_met (all_conditions s name to kind payload)
+          ≡ first_met ((long, why.TooLarge) ∷ (spent, why.NoLabel) ∷ [])
+      by-way long spent length_is label_is out =
+          by-name false free
+          ∙ met-late (way_conditions to kind s.host) (rest_to s to payload) is.0
+          ∙ rest-is s to payload k out is.1
+          ∙ ap (λ t. first_met ((t, why.TooLarge)
+          ∷ (is_none (next_label k side.Ap s.bus), why.NoLabel) ∷ [])) length_is
+          ∙ ap (λ t. first_met ((long, why.TooLarge) ∷ (t, why.NoLabel) ∷ [])) label_is
+
+      -- the payload is too long
+      pub goes-long : 2040 < length payload → GoesAs s name to kind payload (Err why.TooLarge)
+      goes-long long =
+          goes-by s name to kind payload why.TooLarge
+          (by-way true (is_none (next_label k side.Ap s.bus)) (long-is payload long) refl)
+
+      module _ (short : length payload ≤ 2040) (spent : Bool)
+          (by : spent ≡ is_none (next_label k side.Ap s.bus)) where
+        -- no identifier is left
+        pub goes-spent : spent ≡ true → GoesAs s name to kind payload (Err why.NoLabel)
+        goes-spent it =
+            goes-by s name to kind payload why.NoLabel
+            (by-way false true (short-is payload short) (sym by ∙ it))
+
+        -- the request goes
+        pub goes : spent ≡ false → GoesAs s name to kind payload (Ok k)
+        goes it =
+            goes-out s name to kind payload k (λ out. (
+              by-way false false (short-is payload short) (sym by ∙ it) out,
+              is.1,
+              is-there (next_label k side.Ap s.bus) (sym by ∙ it),
+            ))

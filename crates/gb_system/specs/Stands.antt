@@ -5,6 +5,7 @@ use Rattle.gb_base.specs.declared.end.Side.TheVariants as side
 use Rattle.gb_base.specs.declared.entry.Entry.{Entry}
 use Rattle.gb_base.specs.declared.errors.OutOfMemory.{OutOfMemory}
 use Rattle.gb_base.specs.declared.event.Event.{Event}
+use Rattle.gb_base.specs.declared.name.Name.{Name}
 use Rattle.gb_bus.specs.Delivering.{Names, taken_from}
 use Rattle.gb_bus.specs.Stands as bus
 use Rattle.gb_invariants.specs.Facts.{Loose}
@@ -15,14 +16,14 @@ use Rattle.gb_machine.specs.Bus.{Request, request_of}
 use Rattle.gb_machine.specs.Events.{step}
 use Rattle.gb_machine.specs.Holding.{held_on}
 use Rattle.gb_machine.specs.Incoming.{incoming}
-use Rattle.gb_machine.specs.Lists.{nth}
+use Rattle.gb_machine.specs.Lists.{nth, sorted}
 use Rattle.gb_machine.specs.Members.{Each}
-use Rattle.gb_machine.specs.Names.{names_in_order}
 use Rattle.gb_machine.specs.Reached.{OfARun}
-use Rattle.gb_machine.specs.State.{Held, Plugged, State}
+use Rattle.gb_machine.specs.State.{Held, Load, Plugged, State}
 use Rattle.gb_switch.specs.Stands as switch
 use Rattle.gb_system.specs.Held.{held_at, is_marked}
 use Rattle.gb_system.specs.NameOrder.{AreApart}
+use Rattle.gb_system.specs.Showing.{pair_before}
 use Rattle.gb_system.specs.declared.held.HeldRequest.{HeldRequest}
 use Rattle.gb_system.specs.declared.held.HeldRequests.{HeldRequests}
 use Rattle.gb_system.specs.declared.parties.Parties.{Parties}
@@ -82,22 +83,40 @@ AreSound b = (n : ℕ) (r : Request) → request_of n b ≡ Some r → IsSound r
 abbrev pub IsShort : Plugged → Type 0
 IsShort p = length p.body.manifest ≤ most_payload
 
+-- The requests of a bus are sound, and those that are held are among them.
+pub record RequestsStand (x : HeldRequests) (b : machine.Bus) (hs : List Held) : Type 0 where
+  pub sound : AreSound b
+  pub held : HeldStand b.requests x hs
+
+-- The same modules are plugged, with the same last requests, and their manifests fit.
+pub record PluggedStand (x : List Plugged) (last : List Load) (ms : List Plugged) (ls : List Load)
+    : Type 0 where
+  pub modules : ms ≡ x
+  pub loads : ls ≡ last
+  pub short : Each IsShort ms
+
+-- The same names are there, in their order and each once.
+pub record NamesStand (x ns : List (Name × ℕ)) : Type 0 where
+  pub listed : sorted pair_before ns ≡ x
+  pub apart : AreApart ns
+
+-- What few actions change: whether there was a start, the time, and the hold marks.
+pub record RestStands (begun : Bool) (clock : ℕ) (marks : List ℕ) (b : Bool) (now : ℕ)
+    (ks : List ℕ) : Type 0 where
+  pub booted : b ≡ begun
+  pub time : now ≡ clock
+  pub holds : (k : ℕ) → is_marked k ks ≡ is_marked k marks
+
 -- The parties stand for this state, part by part, with these items in no queue besides those that
 -- are held. What the past was is no matter of theirs.
 pub record PartsStand (loose : List Loose) (x : Parties) (s : State) : Type 0 where
   pub bus : bus.Stands (around_bus loose s) x.bus s.bus
+  pub requests : RequestsStand x.held s.bus s.held
   pub ports : switch.Stands x.ladder s.ports
-  pub modules : s.modules ≡ x.modules
-  pub loads : s.loads ≡ x.loads
+  pub plugged : PluggedStand x.modules x.loads s.modules s.loads
   pub host : host.Stands x.host s.host
-  pub names : names_in_order s ≡ x.names
-  pub apart : AreApart s.names
-  pub booted : s.booted ≡ x.booted
-  pub sound : AreSound s.bus
-  pub short : Each IsShort s.modules
-  pub time : s.now ≡ x.time
-  pub holds : (k : ℕ) → is_marked k s.holds ≡ is_marked k x.holds
-  pub held : HeldStand s.bus.requests x.held s.held
+  pub names : NamesStand x.names s.names
+  pub rest : RestStands x.booted x.time x.holds s.booted s.now s.holds
 
 -- The parties stand for a state that some run of valid events leads to.
 pub record PartiesStand (x : Parties) (s : State) : Type 0 where

@@ -1,5 +1,5 @@
 -- The module at the place goes on.
-use Rattle.gb_machine.specs.State.{Plugged}
+use Rattle.gb_system.proofs.Plugged.{is-placed, part_of}
 use Rattle.gb_system.proofs.PluggedLoads.{none-ends, one-ends}
 use Rattle.gb_system.proofs.modules.Modules.ended.Goals as goal
 
@@ -10,13 +10,11 @@ returns-in_default c =
 
 pub returns : goal.returns
 returns c =
-    let x : Plugged = record {
-      intf = c.plugged.inside.intf;
-      primary = c.plugged.inside.primary;
-      count = c.plugged.inside.count;
-      body = c.plugged.inside.body;
-    } in
-    one-ends c.args.intf c.args.cport c.args.how.now c.args.can c.args.self.now
-    c.self.inside.plugged.items c.place.result c.in-Some.i c.index_mut-plugged.result.now x
-    c.ended.new.body c.in_ok-next.next c.place.ensures.first c.in-Some.is c.self.view_is
-    c.plugged.view_is c.index_mut-plugged.ensures.value c.in_ok-next.ensures
+    let one = is-placed c.args.intf c.args.self.now c.self.inside.plugged.items c.place.result
+    c.in-Some.i c.index_mut-plugged.result.now
+    (part_of c.plugged.inside.intf c.plugged.inside.primary c.plugged.inside.count
+    c.plugged.inside.body)
+    c.place.ensures.first c.in-Some.is c.self.view_is c.plugged.view_is
+    c.index_mut-plugged.ensures.value in
+    one-ends c.args.intf c.args.cport c.args.how.now c.args.can c.ended.new.body c.in_ok-next.next
+    one c.in_ok-next.ensures

@@ -10,6 +10,7 @@ use Rattle.gb_system.specs.Stands.{around_bus, names_of}
 pub returns : goal.returns
 returns c = λ s st.
     c.in_ok-append_names.ensures (around_bus [] s) s.bus st.parts.bus
-    (subst (λ names. AreTold (names_of s) names s.bus) st.parts.names
+    (subst (λ names. AreTold (names_of s) names s.bus) st.parts.names.listed
     (sorted-told s.names s.bus st.parts.bus.named))
-    ∙ ap (λ names. string_bytes c.args.out.now ++ tickets_text s.bus names) (sym st.parts.names)
+    ∙ ap (λ names. string_bytes c.args.out.now ++ tickets_text s.bus names)
+    (sym st.parts.names.listed)

@@ -29,9 +29,9 @@ loop-i-preserved c = λ s st.
           (sym w.self-is)
           (subst (λ (es : List Entry). IsBooting w.tell_inserted.new.self s (c.loop-i.i + 1)
           c.count-i-end.result c.args.told.now es) (sym w.told-is)
-          (boot-more c.loop-i.self w.tell_inserted.new.self s c.loop-i.i c.count-i-end.result
-          w.in-Some.span c.loop-i.told w.tell_inserted.new.told c.told_at.result m
-          c.loop-i-test.true c.told_at.ensures w.in-Some.is w.in_ok-tell_inserted.ensures.step))
+          (boot-more c.loop-i.self s c.loop-i.i c.count-i-end.result c.told_at.result m
+          c.loop-i-test.true c.told_at.ensures w.tell_inserted.new.self w.in-Some.span
+          w.tell_inserted.new.told w.in-Some.is w.in_ok-tell_inserted.ensures.step))
       | in_default w ↦
           subst (λ (x : Parties). IsBooting x s (c.loop-i.i + 1) c.count-i-end.result
           c.args.told.now c.match-told_at.told)

@@ -20,9 +20,8 @@ returns c = record {
   step = λ s st.
       subst (λ name. IsDone c.send_on.new.self s (event.Bridge name c.args.intf c.args.cport
       c.args.ask.now) c.args.told.now c.send_on.new.told) c.in_ok-name.ensures
-      (bridge-done c.args.self.now c.send_on.new.self c.sent.new.self s c.in_ok-name.name
-      c.args.intf c.args.cport c.args.ask.now _ c.bridge_way.new.room
-      c.front-payload.result.now _ c.args.told.now
-      c.send_on.new.told st (c.in_ok-connection.ensures.step s st) c.sent.ensures.step
-      c.front-payload.ensures c.in_ok-send_on.ensures.step);
+      (bridge-done s c.in_ok-name.name c.args.intf c.args.cport c.args.ask.now c.args.self.now
+      c.send_on.new.self c.sent.new.self _ c.bridge_way.new.room c.front-payload.result.now _
+      c.args.told.now c.send_on.new.told st (c.in_ok-connection.ensures.step s st)
+      c.sent.ensures.step c.front-payload.ensures c.in_ok-send_on.ensures.step);
 }

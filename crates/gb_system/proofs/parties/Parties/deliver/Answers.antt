@@ -1,8 +1,6 @@
 -- What is delivered is handled as the machine does.
-use Rattle.std.proofs.Common.{[], ℕ, List, refl, sym, ap, ◌∙◌, subst}
-use Rattle.gb_bus.specs.Delivering.{Brings}
-use Rattle.gb_bus.specs.declared.answers.Arrival.{Arrival}
-use Rattle.gb_system.proofs.Arrivals.{answer-here, bad-here, dropped-here, is-there, late-here}
+use Rattle.std.proofs.Common.{[], ℕ, List, sym, ap, ◌∙◌}
+use Rattle.gb_system.proofs.Arrivals.{answer-here, bad-here, dropped-here, late-here}
 use Rattle.gb_system.proofs.Arrivals.{late_label-here, nothing-here, nowhere-here, reads-on}
 use Rattle.gb_system.proofs.Arrivals.{unknown-here, unplugged-here}
 use Rattle.gb_machine.specs.Arriving.{reading_at}
@@ -39,35 +37,21 @@ returns-in-Err-QueueEmpty c = record {
 pub returns-in_ok-ask_at-in-Ask : goal.returns-in_ok-ask_at-in-Ask
 returns-in_ok-ask_at-in-Ask c = record {
   step = λ s st.
-      let d = c.in-Ok.ensures.step (around_bus [] s) s.bus st.parts.bus in
-      let a = subst (λ (w : Arrival). Brings (around_bus [] s) c.deliver.new.self
-      c.takes-takes.result
-      d.place s.bus d.item w) c.in-Ask.is d.brings in
-      ask-here s c.args.at c.deliver.new.self d.place c.in-Ok.arrived.connection d.item
-      c.in-Ask.asked c.in-Ask.payload c.in-Ask.payload st
-      (sym c.if-is_unplugged.false ∙ c.is_unplugged.ensures [] s st.parts) d.named d.front
-      (sym (c.takes-takes.ensures [] s d.place st.parts d.named
-      (is-there c.args.self.now s c.args.at d.place st d.named).side) ∙ a.0) d.connection refl a.1
-      c.in_ok-ask_at-in-Ask.ensures.step;
+      ask-here st (sym c.if-is_unplugged.false ∙ c.is_unplugged.ensures [] s st.parts)
+      (c.in-Ok.ensures.step (around_bus [] s) s.bus st.parts.bus) c.takes-takes.ensures
+      c.in-Ask.asked c.in-Ask.payload c.in-Ask.is c.in_ok-ask_at-in-Ask.ensures.step;
 }
 
 pub returns-in_ok-end-in-Ended : goal.returns-in_ok-end-in-Ended
 returns-in_ok-end-in-Ended c = record {
   step = λ s st.
       let d = c.in-Ok.ensures.step (around_bus [] s) s.bus st.parts.bus in
-      let a = subst (λ (w : Arrival). Brings (around_bus [] s) c.deliver.new.self
-      c.takes-takes.result
-      d.place s.bus d.item w) c.in-Ended.is d.brings in
-      answer-here c.args.self.now s st c.args.at
-      (sym c.if-is_unplugged.false ∙ c.is_unplugged.ensures [] s st.parts) d.place d.named
-      d.item d.front
-      (sym (c.takes-takes.ensures [] s d.place st.parts d.named
-      (is-there c.args.self.now s c.args.at d.place st d.named).side) ∙ a.0)
-      c.deliver.new.self (record {
+      answer-here st (sym c.if-is_unplugged.false ∙ c.is_unplugged.ensures [] s st.parts) d
+      c.takes-takes.ensures (record {
         number = c.in-Ended.number;
         connection = c.in-Ok.arrived.connection;
         side = c.side_of.result;
-      }) c.in-Ended.kind c.in-Ended.code c.in-Ended.payload c.reading-reading.result a.1
+      }) c.in-Ended.kind c.in-Ended.code c.in-Ended.payload c.reading-reading.result c.in-Ended.is
       d.connection c.side_of.ensures
       (λ t stand same. c.reading-reading.ensures [] t d.place.connection stand
       (reads-on s t c.args.at d.place c.in-Ok.arrived.connection st d.named d.connection same)
@@ -79,78 +63,39 @@ returns-in_ok-end-in-Ended c = record {
 pub returns-in_ok-push-in-Late : goal.returns-in_ok-push-in-Late
 returns-in_ok-push-in-Late c = record {
   step = λ s st.
-      let d = c.in-Ok.ensures.step (around_bus [] s) s.bus st.parts.bus in
-      let a = subst (λ (w : Arrival). Brings (around_bus [] s) c.deliver.new.self
-      c.takes-takes.result
-      d.place s.bus d.item w) c.in-Late.is d.brings in
-      late-here c.args.self.now s st c.args.at
-      (sym c.if-is_unplugged.false ∙ c.is_unplugged.ensures [] s st.parts) d.place d.named
-      d.item d.front
-      (sym (c.takes-takes.ensures [] s d.place st.parts d.named
-      (is-there c.args.self.now s c.args.at d.place st d.named).side) ∙ a.0)
-      c.deliver.new.self c.in-Late.number a.1
-      c.in_ok-push-in-Late.ensures.ok;
+      late-here st (sym c.if-is_unplugged.false ∙ c.is_unplugged.ensures [] s st.parts)
+      (c.in-Ok.ensures.step (around_bus [] s) s.bus st.parts.bus) c.takes-takes.ensures
+      c.in-Late.number c.in-Late.is c.in_ok-push-in-Late.ensures.ok;
 }
 
 pub returns-in_ok-push-in-LateLabel : goal.returns-in_ok-push-in-LateLabel
 returns-in_ok-push-in-LateLabel c = record {
   step = λ s st.
-      let d = c.in-Ok.ensures.step (around_bus [] s) s.bus st.parts.bus in
-      let a = subst (λ (w : Arrival). Brings (around_bus [] s) c.deliver.new.self
-      c.takes-takes.result
-      d.place s.bus d.item w) c.in-LateLabel.is d.brings in
-      late_label-here c.args.self.now s st c.args.at
-      (sym c.if-is_unplugged.false ∙ c.is_unplugged.ensures [] s st.parts) d.place d.named
-      d.item d.front
-      (sym (c.takes-takes.ensures [] s d.place st.parts d.named
-      (is-there c.args.self.now s c.args.at d.place st d.named).side) ∙ a.0)
-      c.deliver.new.self c.in-LateLabel.label a.1
-      c.in_ok-push-in-LateLabel.ensures.ok;
+      late_label-here st (sym c.if-is_unplugged.false ∙ c.is_unplugged.ensures [] s st.parts)
+      (c.in-Ok.ensures.step (around_bus [] s) s.bus st.parts.bus) c.takes-takes.ensures
+      c.in-LateLabel.label c.in-LateLabel.is c.in_ok-push-in-LateLabel.ensures.ok;
 }
 
 pub returns-in_ok-push-in-UnknownLabel : goal.returns-in_ok-push-in-UnknownLabel
 returns-in_ok-push-in-UnknownLabel c = record {
   step = λ s st.
-      let d = c.in-Ok.ensures.step (around_bus [] s) s.bus st.parts.bus in
-      let a = subst (λ (w : Arrival). Brings (around_bus [] s) c.deliver.new.self
-      c.takes-takes.result
-      d.place s.bus d.item w) c.in-UnknownLabel.is d.brings in
-      unknown-here c.args.self.now s st c.args.at
-      (sym c.if-is_unplugged.false ∙ c.is_unplugged.ensures [] s st.parts) d.place d.named
-      d.item d.front
-      (sym (c.takes-takes.ensures [] s d.place st.parts d.named
-      (is-there c.args.self.now s c.args.at d.place st d.named).side) ∙ a.0)
-      c.deliver.new.self c.in-UnknownLabel.label a.1
-      c.in_ok-push-in-UnknownLabel.ensures.ok;
+      unknown-here st (sym c.if-is_unplugged.false ∙ c.is_unplugged.ensures [] s st.parts)
+      (c.in-Ok.ensures.step (around_bus [] s) s.bus st.parts.bus) c.takes-takes.ensures
+      c.in-UnknownLabel.label c.in-UnknownLabel.is c.in_ok-push-in-UnknownLabel.ensures.ok;
 }
 
 pub returns-in_ok-push-in-BadRaw : goal.returns-in_ok-push-in-BadRaw
 returns-in_ok-push-in-BadRaw c = record {
   step = λ s st.
-      let d = c.in-Ok.ensures.step (around_bus [] s) s.bus st.parts.bus in
-      let a = subst (λ (w : Arrival). Brings (around_bus [] s) c.deliver.new.self
-      c.takes-takes.result
-      d.place s.bus d.item w) c.in-BadRaw.is d.brings in
-      bad-here c.args.self.now s st c.args.at
-      (sym c.if-is_unplugged.false ∙ c.is_unplugged.ensures [] s st.parts) d.place d.named
-      d.item d.front
-      (sym (c.takes-takes.ensures [] s d.place st.parts d.named
-      (is-there c.args.self.now s c.args.at d.place st d.named).side) ∙ a.0)
-      c.deliver.new.self c.in-BadRaw.fault a.1
-      c.in_ok-push-in-BadRaw.ensures.ok;
+      bad-here st (sym c.if-is_unplugged.false ∙ c.is_unplugged.ensures [] s st.parts)
+      (c.in-Ok.ensures.step (around_bus [] s) s.bus st.parts.bus) c.takes-takes.ensures
+      c.in-BadRaw.fault c.in-BadRaw.is c.in_ok-push-in-BadRaw.ensures.ok;
 }
 
 pub returns-in_ok-push-in-Dropped : goal.returns-in_ok-push-in-Dropped
 returns-in_ok-push-in-Dropped c = record {
   step = λ s st.
-      let d = c.in-Ok.ensures.step (around_bus [] s) s.bus st.parts.bus in
-      let a = subst (λ (w : Arrival). Brings (around_bus [] s) c.deliver.new.self
-      c.takes-takes.result
-      d.place s.bus d.item w) c.in-Dropped.is d.brings in
-      dropped-here c.args.self.now s st c.args.at
-      (sym c.if-is_unplugged.false ∙ c.is_unplugged.ensures [] s st.parts) d.place d.named
-      d.item d.front c.deliver.new.self c.in-Dropped.number c.in-Dropped.reply
-      (sym (c.takes-takes.ensures [] s d.place st.parts d.named
-      (is-there c.args.self.now s c.args.at d.place st d.named).side) ∙ a.0) a.1
-      c.in_ok-push-in-Dropped.ensures.ok;
+      dropped-here st (sym c.if-is_unplugged.false ∙ c.is_unplugged.ensures [] s st.parts)
+      (c.in-Ok.ensures.step (around_bus [] s) s.bus st.parts.bus) c.takes-takes.ensures
+      c.in-Dropped.number c.in-Dropped.reply c.in-Dropped.is c.in_ok-push-in-Dropped.ensures.ok;
 }

@@ -8,7 +8,8 @@ pub returns-in_ok-ask : goal.returns-in_ok-ask
 returns-in_ok-ask c = record {
   step = λ s st askable.
       far-asked c.args.connection c.args.kind c.args.payload.now c.args.oneway
-      c.in_ok-deadline.deadline (ap (λ m. m + 1000) st.time ∙ sym c.in_ok-deadline.ensures.time)
+      c.in_ok-deadline.deadline
+      (ap (λ m. m + 1000) st.rest.time ∙ sym c.in_ok-deadline.ensures.time)
       (sym c.if-is_wired.true ∙ c.is_wired.ensures (around_bus [] s) s.bus st.bus)
       (c.in_ok-ask.ensures.step s st askable (λ e. absurd cc));
 }

@@ -9,7 +9,7 @@ returns-in-Some c = record {
   step = λ s st askable.
       host-asked c.awaits.new.self
       (asking_of c.args.on c.args.kind c.args.payload.now c.args.purpose) c.in_ok-deadline.deadline
-      c.in-Some.number (ap (λ m. m + 1000) st.time ∙ sym c.in_ok-deadline.ensures.time)
+      c.in-Some.number (ap (λ m. m + 1000) st.rest.time ∙ sym c.in_ok-deadline.ensures.time)
       (sym c.in-Some.is ∙ c.in_ok-number.ensures.number s st)
       (c.in_ok-number.ensures.step s st askable (λ e. refl)) c.awaits.ensures.step;
 }

@@ -25,8 +25,8 @@ pub returns : goal.returns
 returns c = record {
   step = λ s st.
       load-goes c.args.number c.in-Some.whose.0 c.in-Some.whose.1 c.args.how.now
-      c.load_way-way.result c.ended.new.self c.in-Some-2.next st (sym c.in-Some.is ∙ c.of.ensures)
-      (c.load_way-way.ensures s st)
+      c.load_way-way.result c.ended.new.self st (sym c.in-Some.is ∙ c.of.ensures)
+      c.in-Some-2.next (c.load_way-way.ensures s st)
       (subst (λ (can : Bool). LoadsThere can c.in-Some.whose.0 c.in-Some.whose.1 c.args.how.now
       c.args.self.now.modules c.ended.new.self (Some c.in-Some-2.next)) c.is_some.ensures
       (subst (LoadsThere c.is_some.result c.in-Some.whose.0 c.in-Some.whose.1 c.args.how.now

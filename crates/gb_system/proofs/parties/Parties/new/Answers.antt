@@ -6,16 +6,18 @@ use Rattle.gb_system.proofs.parties.Parties.new.Goals as goal
 pub returns : goal.returns
 returns c = record {
   bus = c.in_ok-new.ensures;
+  requests = record { sound = search rules; held = search rules };
   ports = c.new-2.ensures;
-  modules = sym c.new-3.ensures;
-  loads = sym c.new-4.ensures;
+  plugged = record {
+    modules = sym c.new-3.ensures;
+    loads = sym c.new-4.ensures;
+    short = search rules;
+  };
   host = c.in_ok-new-2.ensures;
-  names = sym c.new-6.ensures;
-  apart = search rules;
-  booted = refl;
-  sound = search rules;
-  short = search rules;
-  time = refl;
-  holds = λ k. ap (is_marked k) (sym c.new-7.ensures);
-  held = search rules;
+  names = record { listed = sym c.new-6.ensures; apart = search rules };
+  rest = record {
+    booted = refl;
+    time = refl;
+    holds = λ k. ap (is_marked k) (sym c.new-7.ensures);
+  };
 }

@@ -1,10 +1,9 @@
 -- One interface is pulled as the machine does.
-use Rattle.std.proofs.Common.{[], slice_index_or, sym, ◌∙◌, subst}
-use Rattle.std.proofs.lemmas.Grind.{get_or_default_zero}
+use Rattle.std.proofs.Common.{[], ◌∙◌, subst}
 use Rattle.gb_machine.specs.Actions.{each}
 use Rattle.gb_machine.specs.Wires.{unwires}
-use Rattle.gb_system.proofs.Midways.{drop-next, midway-first}
-use Rattle.gb_system.proofs.Pulls.{midway-all, midway-next, pulled-one}
+use Rattle.gb_system.proofs.Midways.{midway-first}
+use Rattle.gb_system.proofs.Pulls.{midway-all, midway-number, pulled-one}
 use Rattle.gb_system.specs.Doing.{Does}
 use Rattle.gb_system.specs.Stands.{around_bus}
 use Rattle.gb_system.proofs.parties.Parties.pull_one.Goals as goal
@@ -16,13 +15,8 @@ loop-connection-init c = λ s st.
 pub loop-connection-preserved : goal.loop-connection-preserved
 loop-connection-preserved c = λ s st.
     let m = c.loop-connection.invariant s st in
-    let numbers = c.items-connection-items.result.now in
-    let i = c.loop-connection.connection-index in
-    let n = slice_index_or numbers i 0 in
-    let within = c.loop-connection-test.true in
-    midway-next unwires numbers i n
-    (drop-next numbers i n within (sym (get_or_default_zero numbers i n within))) m
-    (c.in_ok-unwire.ensures.step m.state m.stand)
+    midway-number unwires c.items-connection-items.result.now c.loop-connection.connection-index
+    c.loop-connection-test.true m (c.in_ok-unwire.ensures.step m.state m.stand)
 
 pub returns : goal.returns
 returns c = record {

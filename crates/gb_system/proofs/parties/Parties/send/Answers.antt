@@ -13,7 +13,7 @@ returns-in_err-connection c = record {
       stops _ _ c.from_residual-in_err-connection.result c.from_residual-in_err-connection.ensures.1
       (subst (λ name. IsRefused c.args.self.now s (event.Send name c.args.to c.args.kind
       c.args.payload.now c.args.timeout) c.in_err-connection.field-0.0) c.in_ok-name.ensures
-      (send-refused s c.in_ok-name.name c.args.to c.args.kind c.args.payload.now
+      (send-refused s c.in_ok-name.name c.args.kind c.args.payload.now c.args.to
       c.args.timeout c.in_err-connection.field-0.0 c.requires.1 st
       (c.in_err-connection.ensures.step s st)));
 }
@@ -23,9 +23,9 @@ returns c = record {
   step = λ s st.
       subst (λ name. IsDone c.send_on.new.self s (event.Send name c.args.to c.args.kind
       c.args.payload.now c.args.timeout) c.args.told.now c.send_on.new.told) c.in_ok-name.ensures
-      (send-done c.args.self.now c.send_on.new.self s c.in_ok-name.name c.args.to c.args.kind
-      c.args.payload.now c.args.timeout c.from-wait.result c.in_ok-connection.connection
-      c.args.told.now c.send_on.new.told
+      (send-done s c.in_ok-name.name c.args.kind c.args.payload.now
+      c.in_ok-connection.connection c.args.self.now c.send_on.new.self c.args.to c.args.timeout
+      c.from-wait.result c.args.told.now c.send_on.new.told
       (subst (λ name. IsValid (event.Send name c.args.to c.args.kind c.args.payload.now
       c.args.timeout)) (sym c.in_ok-name.ensures) c.requires)
       c.from-wait.ensures st (c.in_ok-connection.ensures.step s st)

@@ -1,9 +1,7 @@
 -- A connection is unwired, and then each request that ended so is told.
-use Rattle.std.proofs.Common.{slice_index_or, sym, ◌∙◌}
-use Rattle.std.proofs.lemmas.Grind.{get_or_default_zero}
+use Rattle.std.proofs.Common.{◌∙◌}
 use Rattle.gb_system.proofs.LoadEnds.{loses, severed-first}
-use Rattle.gb_system.proofs.Midways.{drop-next}
-use Rattle.gb_system.proofs.Pulls.{midway-all, midway-next}
+use Rattle.gb_system.proofs.Pulls.{midway-all, midway-number}
 use Rattle.gb_system.proofs.parties.Parties.sever.Goals as goal
 
 pub loop-number-init : goal.loop-number-init
@@ -15,13 +13,8 @@ loop-number-init c = λ s st.
 pub loop-number-preserved : goal.loop-number-preserved
 loop-number-preserved c = λ s st.
     let m = c.loop-number.invariant s st in
-    let numbers = c.items-number-items.result.now in
-    let i = c.loop-number.number-index in
-    let n = slice_index_or numbers i 0 in
-    let within = c.loop-number-test.true in
-    midway-next loses numbers i n
-    (drop-next numbers i n within (sym (get_or_default_zero numbers i n within))) m
-    (c.in_ok-load_on.ensures.step m.state m.stand)
+    midway-number loses c.items-number-items.result.now c.loop-number.number-index
+    c.loop-number-test.true m (c.in_ok-load_on.ensures.step m.state m.stand)
 
 pub returns : goal.returns
 returns c = record {

@@ -16,7 +16,7 @@ returns c = record {
       c.in_ok-show_interfaces.ensures c.in_ok-show_connections.ensures
       c.in_ok-show_queues.ensures
       (c.in_ok-show_names.ensures (around_bus [] s) s.bus st.parts.bus
-      (subst (λ names. AreTold (names_of s) names s.bus) st.parts.names
+      (subst (λ names. AreTold (names_of s) names s.bus) st.parts.names.listed
       (sorted-told s.names s.bus st.parts.bus.named)))
       (c.interfaces.ensures.step s.host st.parts.host)
       (c.items.ensures ∙ c.in_ok-known.ensures (around_bus [] s) s.bus st.parts.bus)

@@ -8,4 +8,4 @@ returns-in-Svc c = λ loose s p stand there side. svc-takes c.args.at s p c.in-S
 pub returns-in-Module : goal.returns-in-Module
 returns-in-Module c = λ loose s p stand there side.
     module-takes c.args.at c.in-Module.intf c.in-Module.cport c.takes.result
-    c.args.self.now.modules s p c.in-Module.is c.takes.ensures stand.modules there
+    c.args.self.now.modules s p c.in-Module.is c.takes.ensures stand.plugged.modules there

@@ -8,7 +8,7 @@ use Rattle.gb_system.proofs.parties.Parties.tell_removed.Goals as goal
 pub returns-in_ok-svc_ask : goal.returns-in_ok-svc_ask
 returns-in_ok-svc_ask c = record {
   step = λ s all st.
-      does-when (tells_removed c.args.primary all) (st.booted ∙ c.if-self.true)
+      does-when (tells_removed c.args.primary all) (st.rest.booted ∙ c.if-self.true)
       (does-removed c.args.primary all
       (c.in_ok-svc_ask.ensures.step s st (removed-askable c.args.primary)));
 }
@@ -16,5 +16,5 @@ returns-in_ok-svc_ask c = record {
 pub returns-else-self : goal.returns-else-self
 returns-else-self c = record {
   step = λ s all st.
-      does-unless (tells_removed c.args.primary all) (st.booted ∙ c.if-self.false) st;
+      does-unless (tells_removed c.args.primary all) (st.rest.booted ∙ c.if-self.false) st;
 }

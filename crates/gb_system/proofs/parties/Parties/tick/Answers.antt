@@ -1,9 +1,8 @@
 -- Time passes as in the machine.
-use Rattle.std.proofs.Common.{[], ◌+◌, slice_index_or, sym, ap, ◌∙◌}
-use Rattle.std.proofs.lemmas.Grind.{get_or_default_zero}
+use Rattle.std.proofs.Common.{[], ◌+◌, slice_index_or, ap, ◌∙◌}
 use Rattle.gb_base.specs.declared.outcome.Outcome.TheVariants as outcome
 use Rattle.gb_machine.specs.GivingUp.{gives_up}
-use Rattle.gb_system.proofs.Midways.{drop-next}
+use Rattle.gb_system.proofs.Midways.{drop-number}
 use Rattle.gb_system.proofs.Pulls.{midway-all}
 use Rattle.gb_system.proofs.Ticks.{due-are, later-stand, mid-at, mid-first, mid-may, mid-next}
 use Rattle.gb_system.proofs.Ticks.{tick-done}
@@ -24,9 +23,7 @@ loop-number-preserved c = λ s st.
     let numbers = c.items-number-items.result.now in
     let i = c.loop-number.number-index in
     let n = slice_index_or numbers i 0 in
-    let within = c.loop-number-test.true in
-    let t = mid-at i n
-    (drop-next numbers i n within (sym (get_or_default_zero numbers i n within)))
+    let t = mid-at i n (drop-number numbers i c.loop-number-test.true)
     (c.loop-number.invariant s st) in
     mid-next n t (c.in_ok-time_out.ensures.step t.midway.state t.midway.stand (mid-may n t))
 
