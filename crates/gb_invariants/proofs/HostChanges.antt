@@ -125,18 +125,11 @@ pub record Keeps (f : Interface → Interface) : Type 0 where
   pub awaits : (x : Interface) → (f x).awaits ≡ x.awaits
   pub stage : (x : Interface) → (f x).stage ≡ x.stage
 
--- a connection may have this state, but for closing, which has a change of its own
-abbrev pub MayTurnTo : ConnState → Type 0
-MayTurnTo state.Open = Unit {0}
-MayTurnTo state.Draining = Unit {0}
-MayTurnTo state.Failed = Unit {0}
-MayTurnTo _ = ⊥
-
 -- What a change finds where it is made.
 abbrev pub Finds : Host → HostChange → Type 0
 Finds h (tells e) = IsOfNone e
 Finds h (updates i f) = Keeps f
-Finds h (turns_to i c to o) = (link_at i c h ≡ o) × MayTurnTo to
+Finds h (turns_to i c to o) = link_at i c h ≡ o
 Finds h (closes i c l) = link_at i c h ≡ Some l
 Finds h (leaves p o) = link_at p.intf p.cport h ≡ o
 Finds h _ = Unit {0}
@@ -260,7 +253,7 @@ FailsFor (at_notice x before) p h =
     (IsEnded x before p × (h ≡ awaits_nothing p before)) ⊎ IsAskedAt x before p h
 FailsFor (at_unsent q before) p h = (q ≡ p) × (h ≡ before) × (is_creating q.step ≡ false)
 
--- why a connection has another state
+-- why a connection has another state, but for closing, which has a change of its own
 abbrev pub TurnsFor : ConnState → Occasion → Host → ℕ → ℕ → Type 0
 TurnsFor state.Open o h i c =
     (step : SequenceStep) × (Completes o (purpose i c step) steps.CreateControl h

@@ -1,6 +1,6 @@
 -- A law of turns goes over what fails, and what is done where a request can't be made.
 use Rattle.std.proofs.Common.{None, Option, Some, ap, false, inr, map, refl}
-use Rattle.std.proofs.Common.{true, ℕ, [], ◌++◌, ◌∙◌, ◌≡◌}
+use Rattle.std.proofs.Common.{subst, true, ℕ, [], ◌++◌, ◌∙◌, ◌≡◌}
 use Rattle.gb_base.specs.declared.entry.{ConnState.ConnState, Entry.Entry}
 use Rattle.gb_base.specs.declared.interface.{Interface.Interface, Link.Link}
 use Rattle.gb_base.specs.declared.steps.{Purpose.Purpose, SequenceStep.SequenceStep}
@@ -13,12 +13,12 @@ use Rattle.gb_machine.specs.Failures.{unsent_fails, without_device}
 use Rattle.gb_machine.specs.Host.{Host, in_state}
 use Rattle.gb_machine.specs.Host.{link_at, staged, with_interface, with_link}
 use Rattle.gb_machine.specs.SequenceSteps.{is_enumeration}
-use Rattle.gb_machine.specs.Sequences.{asked_on}
+use Rattle.gb_machine.specs.Sequences.{asked_on, link_turn}
 use Rattle.gb_machine.specs.Sequences.{step_asked}
 use Rattle.gb_machine.specs.Sequences.{way_of}
 use Rattle.gb_machine.specs.Turns.{Act, Turn, failed_turn, telling, turn}
 use Rattle.gb_invariants.proofs.HostChanges.{AsksAt, FailsAt, FailsFor}
-use Rattle.gb_invariants.proofs.HostChanges.{IsOfNone, Keeps, MayTurnTo}
+use Rattle.gb_invariants.proofs.HostChanges.{IsOfNone, Keeps}
 use Rattle.gb_invariants.proofs.HostChanges.{Occasion, TurnLaw, TurnsFor, asks}
 use Rattle.gb_invariants.proofs.HostChanges.{at_notice, at_unsent}
 use Rattle.gb_invariants.proofs.HostChanges.{fails, is_creating}
@@ -42,24 +42,31 @@ module _ (o : Occasion) (law : TurnLaw o) where
 
   -- a connection opens, drains or fails in front of a turn
   pub turned : (i c : ℕ) (to : ConnState) (l : Option Link) (h : Host) (t : Turn)
-      → link_at i c h ≡ l → MayTurnTo to → TurnsFor to o h i c
-      → law.says (with_link i c (in_state to) h) t
+      → link_at i c h ≡ l → TurnsFor to o h i c → law.says (with_link i c (in_state to) h) t
       → law.says h (turn t.host (map Act.Tell (told_of to l) ++ t.acts))
-  turned i c to l h t found good why s = law.over (turns_to i c to l) h t (found, good) why s
+  turned i c to l h t found why s = law.over (turns_to i c to l) h t found why s
+
+  -- and nothing more is done
+  pub turned-last : (i c : ℕ) (to : ConnState) (h : Host) → TurnsFor to o h i c
+      → law.says h (link_turn to (link_at i c h) (with_link i c (in_state to) h))
+  turned-last i c to h why = by (link_at i c h) refl
+    where
+      g : Host
+      g = with_link i c (in_state to) h
+
+      by : (l : Option Link) → link_at i c h ≡ l → law.says h (link_turn to l g)
+      by None e = turned i c to None h (turn g []) e why (resting g)
+      by (Some l) e = turned i c to (Some l) h (turn g []) e why (resting g)
 
   pub link-fails : (p : Purpose) (h : Host) → FailsFor o p h
       → law.says h (failed_turn (link_fails p h))
-  link-fails p h why = by (link_at p.intf p.cport h) refl
+  link-fails p h why = subst (law.says h) (same (link_at p.intf p.cport h))
+      (turned-last p.intf p.cport state.Failed h (p.step, why))
     where
-      g : Host
-      g = with_link p.intf p.cport (in_state state.Failed) h
-
-      by : (l : Option Link) → link_at p.intf p.cport h ≡ l
-          → law.says h (turn g (map Act.Tell (told_of state.Failed l)))
-      by None e =
-          turned p.intf p.cport state.Failed None h (turn g []) e tt (p.step, why) (resting g)
-      by (Some l) e =
-          turned p.intf p.cport state.Failed (Some l) h (turn g []) e tt (p.step, why) (resting g)
+      same : {g : Host} (l : Option Link)
+          → link_turn state.Failed l g ≡ turn g (map Act.Tell (told_of state.Failed l))
+      same None = refl
+      same (Some l) = refl
 
   -- the Control connection fails, and then its interface
   pub control-fails : (p : Purpose) (h : Host) → FailsFor o p h → FailsAt o p.intf
@@ -73,9 +80,9 @@ module _ (o : Occasion) (law : TurnLaw o) where
           (turn (interface_fails p g).host
           (map Act.Tell (told_of state.Failed l ++ (interface_fails p g).told)))
       by None e = turned p.intf p.cport state.Failed None h (failed_turn (interface_fails p g)) e
-          tt (p.step, for) (interface-fails p g why)
+          (p.step, for) (interface-fails p g why)
       by (Some l) e = turned p.intf p.cport state.Failed (Some l) h
-          (failed_turn (interface_fails p g)) e tt (p.step, for) (interface-fails p g why)
+          (failed_turn (interface_fails p g)) e (p.step, for) (interface-fails p g why)
 
   pub step-fails : (step : SequenceStep) (p : Purpose) (h : Host) → FailsFor o p h
       → (is_enumeration step ≡ true → FailsAt o p.intf)

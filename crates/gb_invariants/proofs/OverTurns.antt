@@ -15,15 +15,15 @@ use Rattle.gb_base.specs.declared.steps.SequenceStep.TheVariants as steps
 use Rattle.gb_formats.specs.Manifest.{CportView, Manifest, check_answer}
 use Rattle.gb_formats.specs.{ControlRecords.read_control_reply, ManifestRules.Refused}
 use Rattle.gb_machine.specs.Failures.{interface_fails, step_fails}
-use Rattle.gb_machine.specs.Host.{Host, cport_of, free_cport, free_device, in_state, interface_of}
+use Rattle.gb_machine.specs.Host.{Host, cport_of, free_cport, free_device, interface_of}
 use Rattle.gb_machine.specs.Host.{is_draining, link_at, link_of, with_interface}
-use Rattle.gb_machine.specs.Host.{with_link, with_new_interface, without_link}
+use Rattle.gb_machine.specs.Host.{with_new_interface, without_link}
 use Rattle.gb_machine.specs.HostTurns.{connects, connects_on, disconnects, drained, ended_for}
-use Rattle.gb_machine.specs.HostTurns.{host_disconnects, host_drains, host_idle, host_inserted}
+use Rattle.gb_machine.specs.HostTurns.{host_disconnects, host_idle, host_inserted}
 use Rattle.gb_machine.specs.HostTurns.{host_removed, without_interface}
 use Rattle.gb_machine.specs.SequenceSteps.{at_step, is_enumeration, is_reply, purpose}
 use Rattle.gb_machine.specs.Sequences.{begins_control, begins_device, link_left}
-use Rattle.gb_machine.specs.Sequences.{link_turn, manifest_checked, opened, opened_told, payload_in}
+use Rattle.gb_machine.specs.Sequences.{manifest_checked, opened, opened_told, payload_in}
 use Rattle.gb_machine.specs.Sequences.{size_in, size_known, step_answered, step_asked, step_done}
 use Rattle.gb_machine.specs.Turns.{Act, failed_turn, turn}
 use Rattle.gb_machine.specs.Waits.{awaited, awaits_nothing}
@@ -38,7 +38,8 @@ use Rattle.gb_invariants.proofs.HostChanges.{makes, resumes, step_behind, to_clo
 use Rattle.gb_invariants.proofs.HostChanges.{to_connect, to_enumerate, to_go_on}
 use Rattle.gb_invariants.proofs.HostChanges.{turn_of, with_control, with_update}
 use Rattle.gb_invariants.proofs.OverFailures.{asked, interface-fails, keeps-all, no-enumeration}
-use Rattle.gb_invariants.proofs.OverFailures.{resting, step-fails, told, turned, updated}
+use Rattle.gb_invariants.proofs.OverFailures.{resting, step-fails, told, turned, turned-last}
+use Rattle.gb_invariants.proofs.OverFailures.{updated}
 
 -- ---- a request ended
 
@@ -148,9 +149,9 @@ module _ (x : Notice) (before : Host) (law : TurnLaw (at_notice x before)) where
         by : (o : Option Link) → link_at p.intf p.cport here ≡ o → law.says here
             (opened_told o (step_asked (at_step steps.AskVersion p) (opened p here)))
         by None f = turned (at_notice x before) law p.intf p.cport state.Open None here _ f
-            tt (p.step, inl (answered, at, refl)) asks-version
+            (p.step, inl (answered, at, refl)) asks-version
         by (Some l) f = turned (at_notice x before) law p.intf p.cport state.Open (Some l) here _ f
-            tt (p.step, inl (answered, at, refl)) asks-version
+            (p.step, inl (answered, at, refl)) asks-version
     done steps.AskVersion payload at =
         goes steps.AskVersion steps.AskSize here at refl refl (λ s. refl) (as_answered refl)
     done steps.AskSize payload at =
@@ -168,16 +169,9 @@ module _ (x : Notice) (before : Host) (law : TurnLaw (at_notice x before)) where
     done steps.CreateConnection payload at =
         goes steps.CreateConnection steps.TellConnected here at refl refl no-enumeration
         (as_answered refl)
-    done steps.TellConnected payload at = by (link_at p.intf p.cport here) refl
-      where
-        by : (o : Option Link) → link_at p.intf p.cport here ≡ o
-            → law.says here (link_turn state.Open o (opened p here))
-        by None f = turned (at_notice x before) law p.intf p.cport state.Open None here
-            (turn (opened p here) []) f tt (p.step, inr (answered, at, refl))
-            (resting (at_notice x before) law (opened p here))
-        by (Some l) f = turned (at_notice x before) law p.intf p.cport state.Open (Some l) here
-            (turn (opened p here) []) f tt (p.step, inr (answered, at, refl))
-            (resting (at_notice x before) law (opened p here))
+    done steps.TellConnected payload at =
+        turned-last (at_notice x before) law p.intf p.cport state.Open here
+        (p.step, inr (answered, at, refl))
     done steps.TellDisconnecting payload at =
         goes steps.TellDisconnecting steps.TellDisconnected here at refl refl no-enumeration
         (as_answered refl)
@@ -255,21 +249,6 @@ module _ (x : Notice) (before : Host) (law : TurnLaw (at_notice x before)) where
           (host_after (closes i c l) before) (to_close i c l why found refl refl) refl
           no-enumeration)
 
-  draining : (i c : ℕ) → x ≡ at_event (host_event.Drain i c)
-      → law.says before (host_drains i c before)
-  draining i c is = by (link_at i c before) refl
-    where
-      after : Host
-      after = with_link i c (in_state state.Draining) before
-
-      by : (o : Option Link) → link_at i c before ≡ o
-          → law.says before (link_turn state.Draining o after)
-      by None found = turned (at_notice x before) law i c state.Draining None before (turn after [])
-          found tt (is, refl) (resting (at_notice x before) law after)
-      by (Some l) found =
-          turned (at_notice x before) law i c state.Draining (Some l) before (turn after []) found
-          tt (is, refl) (resting (at_notice x before) law after)
-
   idle : (k : ℕ) → x ≡ at_event (host_event.Idle k) → law.says before (host_idle k before)
   idle k is = by (link_of k before) refl
     where
@@ -305,7 +284,8 @@ module _ (x : Notice) (before : Host) (law : TurnLaw (at_notice x before)) where
   at-event (host_event.Connect i c) is =
       connected i c is (option_and_then (cport_of c) (interface_of i before))
   at-event (host_event.Disconnect i c) is = closed i c (by_disconnect is)
-  at-event (host_event.Drain i c) is = draining i c is
+  at-event (host_event.Drain i c) is =
+      turned-last (at_notice x before) law i c state.Draining before (is, refl)
   at-event (host_event.Idle k) is = idle k is
   at-event (host_event.Ended n how) is = ended n how is (awaited n before) refl
 

@@ -22,7 +22,7 @@ use Rattle.gb_machine.specs.Failures.{step_fails, told_of}
 use Rattle.gb_machine.specs.Host.{in_state, is_draining, link_of, with_freed, with_link}
 use Rattle.gb_machine.specs.SequenceSteps.{purpose}
 use Rattle.gb_invariants.proofs.HostChanges.{Finds, HostChange, HostEnd, IsClosingFor, IsFor}
-use Rattle.gb_invariants.proofs.HostChanges.{IsOfNone, MayTurnTo, Occasion, TurnLaw, acts_by}
+use Rattle.gb_invariants.proofs.HostChanges.{IsOfNone, Occasion, TurnLaw, TurnsFor, acts_by}
 use Rattle.gb_invariants.proofs.HostChanges.{at_notice, at_unsent, by_disconnect, by_idle, end_of}
 use Rattle.gb_invariants.proofs.{Lists.each-append, OverTurns.over-turn, OverFailures.over-unsent}
 use Rattle.gb_invariants.proofs.Outcomes.{same-number}
@@ -69,9 +69,10 @@ quiet-none (entry.Interface i to) of = refl
 quiet-none (entry.Manifest i at why) of = refl
 quiet-none _ of = absurd of
 
-quiet-turned : (to : ConnState) (l : Link) → MayTurnTo to → is_quiet (link_told to l) ≡ true
-quiet-turned state.Opening l may = absurd may
-quiet-turned _ l may = refl
+quiet-turned : (o : Occasion) (h : Host) (i c : ℕ) (to : ConnState) (l : Link)
+    → TurnsFor to o h i c → is_quiet (link_told to l) ≡ true
+quiet-turned o h i c state.Opening l why = absurd why
+quiet-turned o h i c _ l why = refl
 
 -- where what closes the side of a connection is its cause
 module _ (Cause : ℕ → Type 0) (o : Occasion)
@@ -92,7 +93,7 @@ module _ (Cause : ℕ → Type 0) (o : Occasion)
       fit-left (links_of i h) (λ l j. departing i l h why j)
   change-fits (HostChange.turns_to i c to None) h finds why = tt
   change-fits (HostChange.turns_to i c to (Some l)) h finds why =
-      (quiet-turned to l finds.1, tt)
+      (quiet-turned o h i c to l why, tt)
   change-fits (HostChange.closes i c l) h found why =
       (closing i c l h why found, (refl, tt))
   change-fits (HostChange.leaves p None) h finds why = tt

@@ -15,7 +15,7 @@ use Rattle.gb_machine.specs.Turns.{Act, Turn}
 use Rattle.gb_machine.specs.{Bus.Bus, Failures.unsent, Members.IsIn, SequenceSteps.is_enumeration}
 use Rattle.gb_machine.specs.{Sequences.enumerated, Waits.waiting}
 use Rattle.gb_invariants.proofs.HostChanges.{Completes, Finds, HostChange, HostEnd, IsFor, IsLast}
-use Rattle.gb_invariants.proofs.HostChanges.{MayTurnTo, Occasion, TurnLaw, acts_by, at_notice}
+use Rattle.gb_invariants.proofs.HostChanges.{Occasion, TurnsFor, TurnLaw, acts_by, at_notice}
 use Rattle.gb_invariants.proofs.HostChanges.{at_unsent, end_of, host_after}
 use Rattle.gb_invariants.proofs.Lists.{found-in, in-behind, in-front, in-without}
 use Rattle.gb_invariants.proofs.{Awaiting.same-some, Found.in-first, OverTurns.over-turn}
@@ -102,32 +102,33 @@ abbrev ClosesNone : HostChange → Type 0
 ClosesNone (HostChange.closes i c l) = ⊥
 ClosesNone _ = Unit {0}
 
-not-closing : (to : ConnState) → MayTurnTo to → to ≡ state.Closing → ⊥
-not-closing state.Closing may e = may
-not-closing _ may e = absurd cc
+not-closing : (o : Occasion) (h : Host) (i c : ℕ) (to : ConnState) → TurnsFor to o h i c
+    → to ≡ state.Closing → ⊥
+not-closing o h i c state.Closing why e = why
+not-closing o h i c _ why e = absurd cc
 
-change-fewer : (x : HostChange) (h : Host) → Finds h x → ClosesNone x
+change-fewer : (o : Occasion) (x : HostChange) (h : Host) → IsFor o h x → ClosesNone x
     → ClosesFewer h (host_after x h)
-change-fewer (HostChange.departs i) h finds none = fewer-without h (without_interface i h)
+change-fewer o (HostChange.departs i) h why none = fewer-without h (without_interface i h)
     (λ l j. (in-without (λ (k : Link). k.intf == i) h.links l j).0)
-change-fewer (HostChange.resumes p) h finds none = fewer-waiting None p h
-change-fewer (HostChange.turns_to i c to o) h finds none =
-    fewer-state to (not-closing to finds.1) i c h
-change-fewer (HostChange.closes i c l) h finds none = absurd none
-change-fewer (HostChange.leaves p o) h finds none =
+change-fewer o (HostChange.resumes p) h why none = fewer-waiting None p h
+change-fewer o (HostChange.turns_to i c to l) h why none =
+    fewer-state to (not-closing o h i c to why) i c h
+change-fewer o (HostChange.closes i c l) h why none = absurd none
+change-fewer o (HostChange.leaves p l) h why none =
     fewer-without h (without_link p.intf p.cport h)
     (λ l i. (in-without (is_link p.intf p.cport) h.links l i).0)
-change-fewer x h finds none = fewer-links h (host_after x h) refl
+change-fewer o x h why none = fewer-links h (host_after x h) refl
 
 -- what closes behind a change was closing, or the change closes its side
-change-closes : (x : HostChange) (h : Host) → Finds h x → (n : ℕ) → IsClosing n (host_after x h)
-    → IsClosing n h ⊎ IsIn (Act.Shut n) (acts_by x h)
-change-closes (HostChange.closes i c l) h found n y = ⊎_elim
-    (λ o. inl (record { link = y.link; live = o; on = y.on; closing = y.closing }))
+change-closes : (o : Occasion) (x : HostChange) (h : Host) → Finds h x → IsFor o h x → (n : ℕ)
+    → IsClosing n (host_after x h) → IsClosing n h ⊎ IsIn (Act.Shut n) (acts_by x h)
+change-closes o (HostChange.closes i c l) h found why n y = ⊎_elim
+    (λ w. inl (record { link = y.link; live = w; on = y.on; closing = y.closing }))
     (λ w. inr (inl (ap Act.Shut (sym (ap (λ (k : Link). k.connection)
     (same-some l w.0 (sym found ∙ w.2)) ∙ ap (λ (k : Link). k.connection) (sym w.3) ∙ y.on)))))
     (in-first (is_link i c) (in_state state.Closing) h.links y.link y.live)
-change-closes x h finds n y = inl (change-fewer x h finds tt n y)
+change-closes o x h finds why n y = inl (change-fewer o x h why tt n y)
 
 -- connections are closed before they are given up
 shut-first : (n : ℕ) (ls : List Link) (acts : List Act) → LeavesOpen n (links_left ls ++ acts)
@@ -144,14 +145,14 @@ module _ (o : Occasion) (closed : (p : Purpose) (h : Host)
       → (LeavesOpen n acts → IsClosing n (host_after x h)) → LeavesOpen n (acts_by x h ++ acts)
       → IsClosing n h
   change-left (HostChange.departs i) h acts finds why n s y =
-      change-fewer (HostChange.departs i) h tt tt n (s (shut-first n (links_of i h) acts y))
+      change-fewer o (HostChange.departs i) h why tt n (s (shut-first n (links_of i h) acts y))
   change-left (HostChange.turns_to i c to None) h acts finds why n s y =
-      change-fewer (HostChange.turns_to i c to None) h finds tt n (s y)
+      change-fewer o (HostChange.turns_to i c to None) h why tt n (s y)
   change-left (HostChange.turns_to i c to (Some l)) h acts finds why n s y =
-      change-fewer (HostChange.turns_to i c to (Some l)) h finds tt n (s y)
+      change-fewer o (HostChange.turns_to i c to (Some l)) h why tt n (s y)
   change-left (HostChange.closes i c l) h acts found why n s y =
       ⊎_elim (λ x. x) (λ j. absurd (by j))
-      (change-closes (HostChange.closes i c l) h found n (s y.1))
+      (change-closes o (HostChange.closes i c l) h found why n (s y.1))
     where
       same : (k j : ℕ) → Act.Shut k ≡ Act.Shut j → j ≡ k
       same k j e = cc
@@ -161,11 +162,11 @@ module _ (o : Occasion) (closed : (p : Purpose) (h : Host)
       by (inr (inl e)) = absurd cc
       by (inr (inr j)) = j
   change-left (HostChange.leaves p None) h acts found why n s y =
-      change-fewer (HostChange.leaves p None) h found tt n (s y)
+      change-fewer o (HostChange.leaves p None) h why tt n (s y)
   change-left (HostChange.leaves p (Some l)) h acts found why n s y =
       ⊎_elim (λ e. subst (λ k. IsClosing k h) e (closed p h why l found))
-      (λ z. change-fewer (HostChange.leaves p (Some l)) h found tt n (s z)) y
-  change-left x h acts finds why n s y = change-fewer x h finds tt n (s y)
+      (λ z. change-fewer o (HostChange.leaves p (Some l)) h why tt n (s z)) y
+  change-left x h acts finds why n s y = change-fewer o x h why tt n (s y)
 
   end-closes : (x : HostEnd) (h : Host) → TurnCloses h (end_of x h)
   end-closes (HostEnd.enumerates p bytes) h = record {
@@ -184,7 +185,7 @@ module _ (o : Occasion) (closed : (p : Purpose) (h : Host)
     over = λ x h t finds why s. record {
       closing = λ n y. ⊎_elim
           (λ c. ⊎_elim (λ k. inl k) (λ i. inr (in-front (Act.Shut n) (acts_by x h) t.acts i))
-          (change-closes x h finds n c))
+          (change-closes o x h finds why n c))
           (λ i. inr (in-behind (Act.Shut n) (acts_by x h) t.acts i)) (s.closing n y);
       left = λ n y. change-left x h t.acts finds why n (s.left n) y;
     };
@@ -225,5 +226,6 @@ pub fewer-unsent : (p : Purpose) (h : Host) → ClosesFewer h (unsent p h).host
 fewer-unsent p h = over-unsent p h (record {
   says = λ g t. ClosesFewer g t.host;
   ends = λ x g last. end-fewer p h x g last;
-  over = λ x g t finds why s n y. change-fewer x g finds (none-closed p h x g why) n (s n y);
+  over = λ x g t finds why s n y.
+      change-fewer (at_unsent p h) x g why (none-closed p h x g why) n (s n y);
 })

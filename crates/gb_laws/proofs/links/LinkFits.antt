@@ -9,9 +9,9 @@ use Rattle.gb_machine.specs.Turns.{Act, Turn, turn}
 use Rattle.gb_machine.specs.{Bus.Bus, Members.Each, Members.IsIn}
 use Rattle.gb_invariants.proofs.HostChanges.{AsksNone}
 use Rattle.gb_invariants.proofs.Lists.{in-behind, in-front}
-use Rattle.gb_laws.proofs.links.LinkHosts.{ComeFrom, KeepsAt, Stay, come-changed, come-same, come-then}
-use Rattle.gb_laws.proofs.links.LinkHosts.{host-interface, host-link, stay-changed, stay-same}
-use Rattle.gb_laws.proofs.links.LinkHosts.{then-same}
+use Rattle.gb_laws.proofs.links.LinkHosts.{ComeFrom, KeepsAt, Stay, come-changed, come-same}
+use Rattle.gb_laws.proofs.links.LinkHosts.{come-then, host-interface, host-link, stay-changed}
+use Rattle.gb_laws.proofs.links.LinkHosts.{stay-same, then-same}
 use Rattle.gb_laws.proofs.links.Links.{ArePending, HasNoControl, HostFits}
 use Rattle.gb_laws.proofs.links.Links.{IsFollowed, IsWaiting, SameLink, leaves, stays}
 

@@ -84,7 +84,7 @@ change-tells (HostChange.departs i) h acts finds t = left-tells h (links_of i h)
     (λ l j. (in-filter (λ (k : Link). k.intf == i) h.links l j).0) t
 change-tells (HostChange.turns_to i c to None) h acts finds t = t
 change-tells (HostChange.turns_to i c to (Some l)) h acts finds t =
-    (at-tells h i c l to finds.0, t)
+    (at-tells h i c l to finds, t)
 change-tells (HostChange.closes i c l) h acts finds t = (at-tells h i c l state.Closing finds, t)
 change-tells (HostChange.leaves p None) h acts finds t = t
 change-tells (HostChange.leaves p (Some l)) h acts finds t =

@@ -11,7 +11,7 @@ use Rattle.gb_machine.specs.Failures.{link_told, unsent}
 use Rattle.gb_machine.specs.HostTurns.{links_left, links_of}
 use Rattle.gb_machine.specs.Turns.{Act}
 use Rattle.gb_machine.specs.{Host.Host, Members.Each}
-use Rattle.gb_invariants.proofs.HostChanges.{Finds, HostChange, HostEnd, IsOfNone, MayTurnTo}
+use Rattle.gb_invariants.proofs.HostChanges.{Finds, HostChange, HostEnd, IsFor, IsOfNone, TurnsFor}
 use Rattle.gb_invariants.proofs.HostChanges.{Occasion, TurnLaw, acts_by, at_notice, at_unsent}
 use Rattle.gb_invariants.proofs.HostChanges.{end_of}
 use Rattle.gb_invariants.proofs.OverTurns.{over-turn}
@@ -55,10 +55,10 @@ none-closing : (So : ℕ → Type 0) (e : Entry) → IsOfNone e → TellsOf So e
 none-closing So (entry.Connection k ap i c state) of = absurd of
 none-closing So _ of = tt
 
-turned-led : (So : ℕ → Type 0) (to : ConnState) (l : Link) → MayTurnTo to
-    → TellsOf So (link_told to l)
-turned-led So state.Closing l may = absurd may
-turned-led So _ l may = tt
+turned-led : (So : ℕ → Type 0) (o : Occasion) (h : Host) (i c : ℕ) (to : ConnState) (l : Link)
+    → TurnsFor to o h i c → TellsOf So (link_told to l)
+turned-led So o h i c state.Closing l why = absurd why
+turned-led So o h i c _ l why = tt
 
 left-led : (So : ℕ → Type 0) (ls : List Link) (acts : List Act) → AreLed So acts
     → AreLed So (links_left ls ++ acts)
@@ -69,20 +69,20 @@ left-led So (l ∷ ls) acts led = (
       (led-more So (λ n. (n ≡ l.connection) ⊎ So n) acts (λ n s. inr s) led),
 )
 
-change-led : (So : ℕ → Type 0) (x : HostChange) (h : Host) (acts : List Act) → Finds h x
-    → AreLed So acts → AreLed So (acts_by x h ++ acts)
-change-led So (HostChange.tells e) h acts of led = (none-closing So e of, led)
-change-led So (HostChange.departs i) h acts finds led = left-led So (links_of i h) acts led
-change-led So (HostChange.turns_to i c to None) h acts finds led = led
-change-led So (HostChange.turns_to i c to (Some l)) h acts finds led =
-    (turned-led So to l finds.1, led)
-change-led So (HostChange.closes i c l) h acts found led = (
+change-led : (So : ℕ → Type 0) (o : Occasion) (x : HostChange) (h : Host) (acts : List Act)
+    → Finds h x → IsFor o h x → AreLed So acts → AreLed So (acts_by x h ++ acts)
+change-led So o (HostChange.tells e) h acts of why led = (none-closing So e of, led)
+change-led So o (HostChange.departs i) h acts finds why led = left-led So (links_of i h) acts led
+change-led So o (HostChange.turns_to i c to None) h acts finds why led = led
+change-led So o (HostChange.turns_to i c to (Some l)) h acts finds why led =
+    (turned-led So o h i c to l why, led)
+change-led So o (HostChange.closes i c l) h acts found why led = (
   inl refl,
   led-more So (λ n. (n ≡ l.connection) ⊎ So n) acts (λ n s. inr s) led,
 )
-change-led So (HostChange.leaves p None) h acts found led = led
-change-led So (HostChange.leaves p (Some l)) h acts found led = (tt, led)
-change-led So _ h acts finds led = led
+change-led So o (HostChange.leaves p None) h acts found why led = led
+change-led So o (HostChange.leaves p (Some l)) h acts found why led = (tt, led)
+change-led So o _ h acts finds why led = led
 
 end-led : (So : ℕ → Type 0) (x : HostEnd) (h : Host) → AreLed So (end_of x h).acts
 end-led So (HostEnd.enumerates p bytes) h = (tt, tt)
@@ -92,7 +92,7 @@ abbrev led_law : (ℕ → Type 0) → (o : Occasion) → TurnLaw o
 led_law So o = record {
   says = λ h t. AreLed So t.acts;
   ends = λ x h last. end-led So x h;
-  over = λ x h t finds why led. change-led So x h t.acts finds led;
+  over = λ x h t finds why led. change-led So o x h t.acts finds why led;
 }
 
 pub led-turn : (So : ℕ → Type 0) (e : Notice) (h : Host) → AreLed So (turn_of e h).acts
