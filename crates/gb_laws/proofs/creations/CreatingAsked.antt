@@ -17,7 +17,7 @@ use Rattle.gb_laws.proofs.creations.Creating.{IsBetween, creates_one, creating-f
 use Rattle.gb_laws.proofs.creations.Creating.{step-between}
 use Rattle.gb_laws.proofs.creations.Creating.{step-creating}
 use Rattle.gb_laws.proofs.creations.CreatingFacts.{CreatesFit, IsReady, at-same}
-use Rattle.gb_laws.proofs.links.LinkLists.{found-at, link-is, one-link}
+use Rattle.gb_laws.proofs.links.LinkLists.{found-its, found-there, one-link}
 use Rattle.gb_laws.proofs.links.Links.{HostFits, IsDue, IsFormed, SameLink}
 use Rattle.gb_laws.proofs.{links.LinkActs.awaits-fits, links.LinkHosts.awaits-link}
 use Rattle.gb_laws.proofs.{links.LinkHosts.same-link}
@@ -120,24 +120,22 @@ module _ (b : Bus) (h : Host) (pairs : List (ℕ × ℕ)) (q : Asking) (n : ℕ)
   aimed : is_creating q.purpose.step ≡ false → (l : Link) → at ≡ Some l
       → IsBetween l.ap l.intf l.cport (read_svc_ask q.kind q.payload)
   aimed other l e =
-      let i = found-in (is_link q.purpose.intf q.purpose.cport) then.links l e in
-      let is = link-is q.purpose.intf q.purpose.cport l i.1 in
-      let x = (from-waiting (Some (n, q.purpose.step)) q.purpose h l i.0).from in
+      let is = found-its q.purpose.intf q.purpose.cport then.links l e in
+      let x = (from-waiting (Some (n, q.purpose.step)) q.purpose h l is.0).from in
       let numbered = fits.links.numbered x.link x.live in
-      let was = subst (λ c. link_at q.purpose.intf c h ≡ Some x.link) (sym x.same.cport ∙ is.1)
-      (subst (λ j. link_at j x.link.cport h ≡ Some x.link) (sym x.same.intf ∙ is.0)
-      (found-at h.links x.link fits.links.rise x.live)) in
+      let was = found-there h.links x.link fits.links.rise x.live (sym x.same.intf ∙ is.1)
+      (sym x.same.cport ∙ is.2) in
       at-same x.link l x.same (read_svc_ask q.kind q.payload)
       (subst (λ k. IsBetween x.link.ap x.link.intf x.link.cport (read_svc_ask k q.payload))
       (sym formed.kind) (subst (λ p. IsBetween x.link.ap x.link.intf x.link.cport
       (read_svc_ask (kind_of q.purpose.step) p))
       (sym (ready.1 other ∙ ap (λ o. payload_of q.purpose.step (target (ap_in o) q.purpose h)) was))
       (subst (λ j. IsBetween x.link.ap j x.link.cport (read_svc_ask (kind_of q.purpose.step)
-      (payload_of q.purpose.step (target x.link.ap q.purpose h)))) (sym is.0 ∙ x.same.intf)
+      (payload_of q.purpose.step (target x.link.ap q.purpose h)))) (sym is.1 ∙ x.same.intf)
       (subst (λ c. IsBetween x.link.ap q.purpose.intf c (read_svc_ask (kind_of q.purpose.step)
-      (payload_of q.purpose.step (target x.link.ap q.purpose h)))) (sym is.1 ∙ x.same.cport)
+      (payload_of q.purpose.step (target x.link.ap q.purpose h)))) (sym is.2 ∙ x.same.cport)
       (step-between q.purpose.step (target x.link.ap q.purpose h) numbered.within
-      (let low = numbered.cport in omega (arith, low, sym is.1 ∙ x.same.cport)))))))
+      (let low = numbered.cport in omega (arith, low, sym is.2 ∙ x.same.cport)))))))
 
   pub creates-asked : CreatesFit b.requests then.links
       (pairs_then (is_for_connection q.purpose.step) at n pairs) None

@@ -12,9 +12,9 @@ use Rattle.gb_machine.specs.SequenceSteps.{is_enumeration, is_for_connection, ki
 use Rattle.gb_machine.specs.{Members.IsIn, SvcQueues.is_for_link, SvcQueues.speaks_of_connection}
 use Rattle.gb_machine.specs.{Turns.Asking, Waits.awaits}
 use Rattle.gb_invariants.proofs.Awaiting.{none-some, not-both, same-some}
-use Rattle.gb_invariants.proofs.Lists.{found-in, in-behind, in-front, in-pushed}
+use Rattle.gb_invariants.proofs.Lists.{in-behind, in-front, in-pushed}
 use Rattle.gb_invariants.proofs.Found.{find-changed, in-first}
-use Rattle.gb_laws.proofs.links.LinkLists.{found-at, link-is, one-link}
+use Rattle.gb_laws.proofs.links.LinkLists.{found-at, found-its, one-link}
 use Rattle.gb_laws.proofs.links.Links.{HostFits, IsDue, IsDueBy, IsFormed}
 use Rattle.gb_laws.proofs.creations.Pairs.{IsAskedAs, IsSvcRequest, PairsFit, asks-svc, speaks-of}
 use Rattle.gb_laws.proofs.links.LinkActs.{awaits-fits}
@@ -57,9 +57,7 @@ module _ (b : Bus) (h : Host) (pairs : List (ℕ × ℕ)) (q : Asking) (n : ℕ)
   target-link : (l : Link) → link_at q.purpose.intf q.purpose.cport (awaits q.purpose n h) ≡ Some l
       → IsIn l (awaits q.purpose n h).links × (l.intf ≡ q.purpose.intf)
       × (l.cport ≡ q.purpose.cport)
-  target-link l e =
-      let i = found-in (is_link q.purpose.intf q.purpose.cport) (awaits q.purpose n h).links l e in
-      let at = link-is q.purpose.intf q.purpose.cport l i.1 in (i.0, at.0, at.1)
+  target-link l e = found-its q.purpose.intf q.purpose.cport (awaits q.purpose n h).links l e
 
   come : (l : Link) → IsIn l (awaits q.purpose n h).links
       → (x : Link) × IsIn x h.links × (x.connection ≡ l.connection) × (x.intf ≡ l.intf)

@@ -8,7 +8,7 @@ use Rattle.gb_base.specs.declared.interface.{Interface.Interface, Link.Link}
 use Rattle.gb_base.specs.declared.steps.Purpose.{Purpose}
 use Rattle.gb_base.specs.declared.entry.IntfStage.TheVariants as stage
 use Rattle.gb_machine.proofs.Conditions.{AreUnmet, free}
-use Rattle.gb_machine.specs.Host.{Host, interface_of, is_intf, is_link, with_given}
+use Rattle.gb_machine.specs.Host.{Host, interface_of, is_intf, with_given}
 use Rattle.gb_machine.specs.Host.{with_link}
 use Rattle.gb_machine.specs.HostRefusals.{connect_conditions, is_enumerating}
 use Rattle.gb_machine.specs.HostRefusals.{is_failed_stage}
@@ -43,7 +43,7 @@ use Rattle.gb_laws.proofs.{links.LinkBuses.new_link, links.LinkHosts.credits-lin
 use Rattle.gb_laws.proofs.{links.LinkHosts.same-link}
 use Rattle.gb_laws.proofs.links.LinkDue.{IsAllowed, closes-idle}
 use Rattle.gb_laws.proofs.links.LinkKept.{InsertsAbsent, LinkedAt, allowed}
-use Rattle.gb_laws.proofs.{links.LinkLists.link-is}
+use Rattle.gb_laws.proofs.{links.LinkLists.found-its}
 use Rattle.gb_laws.proofs.{points.PointParts.IsCaused, points.PointParts.Point}
 
 pub record LinksDone (i : ℕ) (a : Point) : Type 0 where
@@ -136,10 +136,9 @@ module _ (m : Moment) (absent : InsertsAbsent m) (i : ℕ) (a : Point) (links : 
           (subst (λ y. IsAllowed y a.state.host) f (allowed m absent e a.state.host cause)).0
           (where-asked is)
       by (to_close j c l why found is here) =
-          let its = found-in (is_link j c) a.state.host.links l found in
-          let same = link-is j c l its.1 in
-          h.links l its.0 (same.0 ∙ where-asked is) (λ zero. (closes-idle j c l links.host
-          (allowed m absent e a.state.host cause) why found).0 (sym same.1 ∙ zero))
+          let its = found-its j c a.state.host.links l found in
+          h.links l its.0 (its.1 ∙ where-asked is) (λ zero. (closes-idle j c l links.host
+          (allowed m absent e a.state.host cause) why found).0 (sym its.2 ∙ zero))
       by (to_go_on last step r next is here) = behind r.number last r.awaited
           (same-kind last.step next ∙ ap (λ (x : Purpose). is_enumeration x.step) (sym is) ∙ s)
           (where-asked is)

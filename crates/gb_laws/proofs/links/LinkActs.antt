@@ -2,7 +2,6 @@
 use Rattle.std.proofs.Common.{Bool, List, None, Option, Some, ap, cond, false, inl, inr, map, refl}
 use Rattle.std.proofs.Common.{subst, sym, true, ℕ, ⊎_elim, [], ◌∙◌, ◌∷◌, ◌≡◌, ◌⊎◌}
 use Rattle.std.specs.Prelude.{Err, Ok, Result, ◌==◌}
-use Rattle.gb_base.specs.declared.end.End.TheVariants as end
 use Rattle.gb_base.specs.declared.entry.Entry.{Entry}
 use Rattle.gb_base.specs.declared.interface.{Interface.Interface, Link.Link}
 use Rattle.gb_base.specs.declared.steps.{Purpose.Purpose, SequenceStep.SequenceStep}
@@ -12,7 +11,7 @@ use Rattle.gb_formats.specs.{Records.PayloadFault, SvcRecords.SvcAsk}
 use Rattle.gb_formats.specs.{SvcRecords.read_svc_ask_of_svc, UartDevice.credits_added}
 use Rattle.gb_formats.specs.{UartRecords.UartAsk, UartRecords.read_uart_ask_of_module}
 use Rattle.gb_machine.specs.Failures.{unsent}
-use Rattle.gb_machine.specs.Host.{Host, is_intf, is_link, link_at, link_of, with_interface}
+use Rattle.gb_machine.specs.Host.{Host, is_intf, link_at, link_of, with_interface}
 use Rattle.gb_machine.specs.Host.{with_link}
 use Rattle.gb_machine.specs.HostServing.{HostServed, credited, host_serves, interrupted}
 use Rattle.gb_machine.specs.HostServing.{notified_by, served_on, uart_notified_by, with_credits}
@@ -21,7 +20,7 @@ use Rattle.gb_machine.specs.{Bus.Bus, Bus.Connection, HostActs.made_for, HostAct
 use Rattle.gb_machine.specs.{Members.IsIn, SequenceSteps.is_enumeration}
 use Rattle.gb_machine.specs.{SequenceSteps.is_for_connection, State.State, Waits.awaits}
 use Rattle.gb_invariants.proofs.{Awaiting.not-both, Awaiting.same-some, HostChanges.is_creating}
-use Rattle.gb_invariants.proofs.{Lists.found-in, Lists.in-at_first}
+use Rattle.gb_invariants.proofs.{Lists.in-at_first}
 use Rattle.gb_invariants.proofs.{Outcomes.same-number}
 use Rattle.gb_laws.proofs.links.LinkHosts.{Stay, awaits-link, credits-link, host-images}
 use Rattle.gb_laws.proofs.links.LinkHosts.{host-interface, host-link, stay-changed, stay-same}
@@ -34,21 +33,10 @@ use Rattle.gb_laws.proofs.links.Links.{is_early, leaves, leaving, linked, stays,
 use Rattle.gb_laws.proofs.points.LoaderFacts.{same-plugs}
 use Rattle.gb_laws.proofs.points.Points.{IsAsking, SamePlugs, asking, opening}
 use Rattle.gb_laws.proofs.{points.Awaited.awaited-rest, links.LinkFrom.Linked}
-use Rattle.gb_laws.proofs.{links.LinkLists.link-is}
+use Rattle.gb_laws.proofs.links.LinkFrom.{followed-known}
+use Rattle.gb_laws.proofs.{links.LinkLists.found-its}
 
 -- ---- the application processor changes, and its connections stay
-
-known-stay : (c : Connection) (ls after : List Link) (acts : List Act) → Stay ls after
-    → IsKnown c ls acts → IsKnown c after acts
-known-stay c ls after acts stay (supervisory e) = supervisory e
-known-stay c ls after acts stay (leaving i) = leaving i
-known-stay c ls after acts stay (linked l i of) = let s = stay l i in linked s.0 s.1 (record {
-  number = of.number ∙ sym s.2.connection;
-  ap = of.ap ∙ sym s.2.ap;
-  peer = of.peer ∙ sym (ap (λ i. end.Module i s.0.cport) s.2.intf
-      ∙ ap (end.Module l.intf) s.2.cport);
-  protocol = of.protocol ∙ sym s.2.protocol;
-})
 
 -- at rest
 pub linked-stay : {b : Bus} {h g : Host} → HostFits b g → Stay h.links g.links → Linked b h []
@@ -56,7 +44,8 @@ pub linked-stay : {b : Bus} {h g : Host} → HostFits b g → Stay h.links g.lin
 linked-stay {h} {g} fits stay f = record {
   host = fits;
   pending = tt;
-  known = λ c live. known-stay c h.links g.links [] stay (f.known c live);
+  known = λ c live. followed-known c h.links []
+      (λ l i. let s = stay l i in stays s.0 s.1 s.2) (f.known c live);
   svc = f.svc;
   made = f.made;
 }
@@ -109,8 +98,7 @@ awaits-fits {b} p n {h} fits due = by (is_enumeration p.step) refl due
           (awaits-link (Some (n, p.step)))
           (λ l found. record {
             waiting = λ old w f. (
-              λ z. idle.cport (sym (link-is p.intf p.cport l
-                  (found-in (is_link p.intf p.cport) h.links l found).1).1 ∙ z),
+              λ z. idle.cport (sym (found-its p.intf p.cport h.links l found).2 ∙ z),
               subst (λ (y : ℕ × SequenceStep). IsAtStep y.1 l.state) (same-some wait w f)
                   (idle.state l found),
             );

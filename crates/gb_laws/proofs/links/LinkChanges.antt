@@ -3,13 +3,13 @@
 use Rattle.std.proofs.Common.{Bool, List, Some, refl, sym, ℕ, ◌∙◌, ◌≡◌, ◌≢◌}
 use Rattle.gb_base.specs.declared.end.Side.{Side}
 use Rattle.gb_base.specs.declared.outcome.Outcome.{Outcome}
-use Rattle.gb_machine.specs.Bus.{Bus, Connection, Item}
-use Rattle.gb_machine.specs.Delivery.{ended, popped, replied}
+use Rattle.gb_machine.specs.Bus.{Bus, Connection}
+use Rattle.gb_machine.specs.Delivery.{ended, popped}
 use Rattle.gb_machine.specs.{Host.Host, Members.IsIn, Requests.gave_up}
 use Rattle.gb_machine.specs.{Turns.Act}
 use Rattle.gb_invariants.proofs.BusChanges.{BusChange, Was, bus_after, came, clean_by, ends}
 use Rattle.gb_invariants.proofs.BusChanges.{gives_up, injects, leaves, made_by, number_of, opens}
-use Rattle.gb_invariants.proofs.BusChanges.{puts, sends, shut_by, shuts, stayed, takes, was, went}
+use Rattle.gb_invariants.proofs.BusChanges.{sends, shut_by, shuts, stayed, takes, was, went}
 use Rattle.gb_invariants.proofs.Awaiting.{none-some}
 use Rattle.gb_laws.proofs.links.LinkFrom.{IsFrom, Linked, from-same, linked-from}
 
@@ -63,11 +63,6 @@ linked-after {b} {h} {acts} x well f =
 pub linked-popped : {b : Bus} {h : Host} {acts : List Act} (k : ℕ) (at : Side) → Linked b h acts
     → Linked (popped k at b) h acts
 linked-popped k at f = linked-after (takes k at) tt f
-
--- a reply goes
-pub linked-replied : {b : Bus} {h : Host} {acts : List Act} (k : ℕ) (at : Side) (item : Item)
-    → Linked b h acts → Linked (replied k at item b) h acts
-linked-replied k at item f = linked-after (puts k at item) tt f
 
 -- a request ends
 pub linked-ended : {b : Bus} {h : Host} {acts : List Act} (n : ℕ) (how : Outcome) → Linked b h acts

@@ -32,7 +32,8 @@ use Rattle.gb_invariants.proofs.{Found.find-none, Found.in-ordered, Outcomes.is-
 use Rattle.gb_invariants.proofs.{Outcomes.same-number}
 use Rattle.gb_laws.proofs.links.LinkEnds.{Resumed, resumed, waited-due}
 use Rattle.gb_laws.proofs.links.LinkHosts.{next-interface}
-use Rattle.gb_laws.proofs.links.LinkLists.{find-changed, found-there, link-is, ordered-in}
+use Rattle.gb_laws.proofs.links.LinkLists.{find-changed, found-its, found-there, link-is}
+use Rattle.gb_laws.proofs.links.LinkLists.{ordered-in}
 use Rattle.gb_laws.proofs.links.Links.{HasNoControl, HostFits, IsAtStep, IsDue, IsDueBy, IsPresent}
 use Rattle.gb_laws.proofs.links.Links.{IsResting, IsWaiting}
 use Rattle.gb_laws.proofs.{links.Controls.control-none, links.Waited.waits-for}
@@ -143,8 +144,8 @@ control-idle {h} i c l fits zero_cport found = by l.awaits refl
     by : (o : Option (ℕ × SequenceStep)) → l.awaits ≡ o → o ≡ None
     by None f = refl
     by (Some w) f =
-        let k = found-in (is_link i c) h.links l found in
-        absurd ((fits.links.waiting l k.0 w f).0 ((link-is i c l k.1).1 ∙ zero_cport))
+        let k = found-its i c h.links l found in
+        absurd ((fits.links.waiting l k.0 w f).0 (k.2 ∙ zero_cport))
 
 -- A connection that is closing isn't Control, and waits for nothing.
 pub closes-idle : {b : Bus} {x : Notice} {h : Host} (i c : ℕ) (l : Link) → HostFits b h
@@ -154,7 +155,7 @@ closes-idle {h} i c l fits allowed (by_disconnect is) found =
     let met = subst (λ y. IsAllowed y h) is allowed in
     let may = subst (λ o. AreUnmet (link_conditions is_closing o)) found met.1.1 in (
       λ z. not-both (c == 0) (ap (λ n. n == 0) z) met.1.0,
-      still-idle l (fits.links.waiting l (found-in (is_link i c) h.links l found).0)
+      still-idle l (fits.links.waiting l (found-its i c h.links l found).0)
           (λ f. not-both (is_unopened l.state) (ap is_unopened f) may.0)
           (λ f. not-both (is_closing l.state) (ap is_closing f) may.1.0),
     )

@@ -1,10 +1,10 @@
 -- The facts of the application processor's connections, where each live one comes from one before.
-use Rattle.std.proofs.Common.{List, refl, subst, sym, ◌∙◌, ◌≡◌, ◌≤◌}
+use Rattle.std.proofs.Common.{List, ap, refl, subst, sym, [], ◌∙◌, ◌≡◌, ◌≤◌}
+use Rattle.gb_base.specs.declared.end.End.TheVariants as end
 use Rattle.gb_base.specs.declared.interface.Link.{Link}
 use Rattle.gb_machine.specs.{Bus.Bus, Bus.Connection, Host.Host, Members.IsIn, Turns.Act}
-use Rattle.gb_laws.proofs.links.Links.{ArePending, HostFits, IsKnown, IsNumbered, IsSvc, leaving}
-use Rattle.gb_laws.proofs.links.Links.{linked}
-use Rattle.gb_laws.proofs.links.Links.{supervisory}
+use Rattle.gb_laws.proofs.links.Links.{ArePending, HostFits, IsFollowed, IsKnown, IsNumbered}
+use Rattle.gb_laws.proofs.links.Links.{IsSvc, leaves, leaving, linked, stays, supervisory}
 
 -- The application processor and the bus, with the acts that are pending.
 pub record Linked (b : Bus) (h : Host) (acts : List Act) : Type 0 where
@@ -13,6 +13,25 @@ pub record Linked (b : Bus) (h : Host) (acts : List Act) : Type 0 where
   pub known : (c : Connection) → IsIn c b.connections → IsKnown c h.links acts
   pub svc : (c : Connection) → IsIn c b.connections → c.number ≡ 1 → IsSvc c
   pub made : 1 ≤ b.made
+
+-- ---- connections that are followed
+
+-- what is known of live connections behind a turn
+pub followed-known : (c : Connection) (ls : List Link) {after : List Link} (acts : List Act)
+    → ((l : Link) → IsIn l ls → IsFollowed l after acts) → IsKnown c ls [] → IsKnown c after acts
+followed-known c ls acts f (supervisory e) = supervisory e
+followed-known c ls acts f (leaving i) = absurd i
+followed-known c ls {after} acts f (linked l i of) = by (f l i)
+  where
+    by : IsFollowed l after acts → IsKnown c after acts
+    by (stays k j same) = linked k j (record {
+      number = of.number ∙ sym same.connection;
+      ap = of.ap ∙ sym same.ap;
+      peer = of.peer ∙ ap (λ i. end.Module i l.cport) (sym same.intf)
+          ∙ ap (end.Module k.intf) (sym same.cport);
+      protocol = of.protocol ∙ sym same.protocol;
+    })
+    by (leaves j) = leaving (subst (λ n. IsIn (Act.Leave n) acts) (sym of.number) j)
 
 -- ---- where connections come from
 

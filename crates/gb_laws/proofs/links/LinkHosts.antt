@@ -1,5 +1,5 @@
 -- The facts of the application processor's connections where one of them changes, or an interface.
-use Rattle.std.proofs.Common.{Bool, List, Option, Some, ap, arith, false, refl, subst, sym, true, ℕ}
+use Rattle.std.proofs.Common.{Bool, List, Option, Some, ap, arith, refl, subst, sym, true, ℕ}
 use Rattle.std.proofs.Common.{⊎_elim, ◌∙◌, ◌≡◌}
 use Rattle.std.specs.List.{find}
 use Rattle.std.specs.Prelude.{Option, not, ◌&&◌, ◌==◌}
@@ -9,7 +9,7 @@ use Rattle.gb_base.specs.declared.steps.{Purpose.Purpose, SequenceStep.SequenceS
 use Rattle.gb_formats.specs.Images.{Images}
 use Rattle.gb_machine.specs.Host.{Host, in_state, is_intf, is_link, with_interface, with_link}
 use Rattle.gb_machine.specs.{Bus.Bus, Lists.at_first, Lists.without, Members.IsIn}
-use Rattle.gb_invariants.proofs.Lists.{at_first-back, filter-in, found-in, in-without, two-at_first}
+use Rattle.gb_invariants.proofs.Lists.{at_first-back, found-in, in-without, two-at_first}
 use Rattle.gb_invariants.proofs.Lists.{two-filter}
 use Rattle.gb_invariants.proofs.Found.{in-first}
 use Rattle.gb_laws.proofs.links.Links.{AreOther, DrainsPlain, HasNoControl, HostFits, IsDeaf}
@@ -244,7 +244,3 @@ host-without {b} {h} test fits = record {
   differ = fits.differ;
   present = λ l i. fits.present l (in-without test h.links l i).0;
 }
-
-pub without-in : (test : Link → Bool) (ls : List Link) (l : Link) → IsIn l ls → test l ≡ false
-    → IsIn l (without test ls)
-without-in test ls l i e = filter-in (λ k. not (test k)) ls l i (ap not e)

@@ -1,5 +1,5 @@
 -- The facts of the application processor's connections are kept by each single change.
-use Rattle.std.proofs.Common.{List, None, ap, refl, subst, sym, ℕ, [], ◌∙◌, ◌∷◌, ◌≡◌, ◌≢◌}
+use Rattle.std.proofs.Common.{None, refl, subst, sym, ℕ, [], ◌∷◌, ◌≡◌, ◌≢◌}
 use Rattle.std.specs.Prelude.{◌-◌}
 use Rattle.gb_base.specs.declared.host_event.HostEvent.TheVariants as host_event
 use Rattle.gb_base.specs.declared.host_event.HostEvent.{HostEvent}
@@ -8,10 +8,9 @@ use Rattle.gb_base.specs.declared.end.Side.{Side}
 use Rattle.gb_base.specs.declared.end.End.TheVariants as end
 use Rattle.gb_base.specs.declared.end.Side.TheVariants as side
 use Rattle.gb_base.specs.declared.event.Event.TheVariants as event
-use Rattle.gb_base.specs.declared.interface.Link.{Link}
 use Rattle.gb_formats.specs.Bridges.{credits_taken}
 use Rattle.gb_machine.proofs.Conditions.{AreUnmet, free, front-unmet}
-use Rattle.gb_machine.specs.Bus.{Bus, Connection, end_of}
+use Rattle.gb_machine.specs.Bus.{Bus, end_of}
 use Rattle.gb_machine.specs.Host.{Host, control_of, interface_of, with_given, with_link}
 use Rattle.gb_machine.specs.Turns.{Act}
 use Rattle.gb_machine.specs.{HostRefusals.connect_conditions, HostRefusals.disconnect_conditions}
@@ -28,16 +27,13 @@ use Rattle.gb_laws.proofs.links.LinkActs.{linked-unsent}
 use Rattle.gb_laws.proofs.links.LinkBuses.{linked-left, linked-opened, linked-rest, linked-shut}
 use Rattle.gb_laws.proofs.links.LinkDue.{IsAllowed}
 use Rattle.gb_laws.proofs.links.LinkTurns.{turn-fits}
-use Rattle.gb_laws.proofs.links.Links.{IsFollowed, IsKnown, leaves, leaving}
-use Rattle.gb_laws.proofs.links.Links.{linked}
-use Rattle.gb_laws.proofs.links.Links.{stays, supervisory}
 use Rattle.gb_laws.proofs.points.PointParts.{IsCaused, IsNoticed, Point}
 use Rattle.gb_laws.proofs.points.Points.{Change, acts_asked, acts_failed, acts_left, acts_made}
 use Rattle.gb_laws.proofs.points.Points.{acts_shut, acts_told, changed, gives, injects, serves}
 use Rattle.gb_laws.proofs.points.Points.{spends}
 use Rattle.gb_laws.proofs.points.Points.{turns}
 use Rattle.gb_laws.proofs.{points.ChangeBuses.bus_change, links.LinkChanges.linked-after}
-use Rattle.gb_laws.proofs.{links.LinkFrom.Linked}
+use Rattle.gb_laws.proofs.{links.LinkFrom.Linked, links.LinkFrom.followed-known}
 use Rattle.gb_laws.proofs.{points.Places.module-far, points.Places.place-is}
 
 -- an interface of a module whose insertion is handled at a moment is absent
@@ -75,23 +71,6 @@ allowed m absent (at_insertion p i) h cause =
     cause.absent (absent p cause.count i cause.noticed cause.within)
 allowed m absent (at_removal i) h cause = tt
 allowed m absent (at_event x) h cause = event-allowed m x h cause
-
--- what is known of live connections behind a turn
-followed-known : (c : Connection) (ls : List Link) {after : List Link} (acts : List Act)
-    → ((l : Link) → IsIn l ls → IsFollowed l after acts) → IsKnown c ls [] → IsKnown c after acts
-followed-known c ls acts f (supervisory e) = supervisory e
-followed-known c ls acts f (leaving i) = absurd i
-followed-known c ls {after} acts f (linked l i of) = by (f l i)
-  where
-    by : IsFollowed l after acts → IsKnown c after acts
-    by (stays k j same) = linked k j (record {
-      number = of.number ∙ sym same.connection;
-      ap = of.ap ∙ sym same.ap;
-      peer = of.peer ∙ ap (λ i. end.Module i l.cport) (sym same.intf)
-          ∙ ap (end.Module k.intf) (sym same.cport);
-      protocol = of.protocol ∙ sym same.protocol;
-    })
-    by (leaves j) = leaving (subst (λ n. IsIn (Act.Leave n) acts) (sym of.number) j)
 
 -- The facts go with the acts of a turn.
 abbrev pub TurnsTo : Bus → Host → Notice → Type 0

@@ -22,6 +22,12 @@ pub link-is : (i c : ℕ) (l : Link) → is_link i c l ≡ true → (l.intf ≡ 
 link-is i c l h = let p = both-true (l.intf == i) (l.cport == c) h in
     (same-number l.intf i p.0, same-number l.cport c p.1)
 
+-- so is one that is found there
+pub found-its : (i c : ℕ) (ls : List Link) (l : Link) → find (is_link i c) ls ≡ Some l
+    → IsIn l ls × (l.intf ≡ i) × (l.cport ≡ c)
+found-its i c ls l e =
+    let f = found-in (is_link i c) ls l e in let at = link-is i c l f.1 in (f.0, at.0, at.1)
+
 pub is-link : (i c : ℕ) (l : Link) → l.intf ≡ i → l.cport ≡ c → is_link i c l ≡ true
 is-link i c l e f = grind (arith, nat_tests)
 
@@ -71,6 +77,7 @@ found-at (x ∷ xs) l rise (inr i) =
         absurd (not-both (is_link x.intf x.cport l) is
         (each-in (IsLinkBefore x) xs l rise.0 i).apart)
 
+-- from where it is
 pub found-there : (ls : List Link) (l : Link) {i c : ℕ} → EachTwo IsLinkBefore ls → IsIn l ls
     → l.intf ≡ i → l.cport ≡ c → find (is_link i c) ls ≡ Some l
 found-there ls l {i} rise known intf cport = sym (ap (λ n. find (is_link n l.cport) ls) intf
@@ -87,8 +94,7 @@ on-control p h k way own = at (link_at p.intf 0 h) refl
         → (l : Link) × IsIn l h.links × (l.connection ≡ k) × (l.cport ≡ 0)
     at None e f = absurd cc
     at (Some l) e f =
-        let i = found-in (is_link p.intf 0) h.links l e in
-        (l, i.0, same-some l.connection k f, (link-is p.intf 0 l i.1).1)
+        let i = found-its p.intf 0 h.links l e in (l, i.0, same-some l.connection k f, i.2)
 
 -- ---- interfaces
 

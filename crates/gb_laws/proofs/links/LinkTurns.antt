@@ -23,7 +23,8 @@ use Rattle.gb_invariants.proofs.HostChanges.{Finds, HostChange, HostEnd, IsFor, 
 use Rattle.gb_invariants.proofs.HostChanges.{Occasion, TurnLaw, TurnsFor, acts_by, at_event}
 use Rattle.gb_invariants.proofs.HostChanges.{at_insertion, at_notice, at_unsent, changes-ask}
 use Rattle.gb_invariants.proofs.HostChanges.{end_of, host_after, is_creating, turn_of}
-use Rattle.gb_invariants.proofs.Lists.{filter-in, found-in, in-filter, in-without, two-filter}
+use Rattle.gb_invariants.proofs.Lists.{filter-in, found-in, in-filter, in-without, stays-without}
+use Rattle.gb_invariants.proofs.Lists.{two-filter}
 use Rattle.gb_invariants.proofs.{Awaiting.none-some, Awaiting.not-both, Awaiting.same-some}
 use Rattle.gb_invariants.proofs.{Found.changed-in, Found.find-none, Found.in-ordered}
 use Rattle.gb_invariants.proofs.{OverFailures.over-unsent, OverTurns.over-turn}
@@ -34,11 +35,11 @@ use Rattle.gb_laws.proofs.links.LinkDue.{makes-free, noticed-allowed, still-idle
 use Rattle.gb_laws.proofs.links.LinkFits.{TurnFits, fits-interface, fits-link, fits-same, fits-then}
 use Rattle.gb_laws.proofs.links.LinkFits.{waits-not}
 use Rattle.gb_laws.proofs.links.LinkHosts.{come-without, host-images, host-without}
-use Rattle.gb_laws.proofs.links.LinkHosts.{same-link, state-link, stay-changed, without-in}
-use Rattle.gb_laws.proofs.links.LinkLists.{found-there, link-is, one-link, ordered-differ}
-use Rattle.gb_laws.proofs.links.LinkLists.{ordered-stays}
+use Rattle.gb_laws.proofs.links.LinkHosts.{same-link, state-link, stay-changed}
+use Rattle.gb_laws.proofs.links.LinkLists.{found-its, found-there, link-is, one-link}
+use Rattle.gb_laws.proofs.links.LinkLists.{ordered-differ, ordered-stays}
 use Rattle.gb_laws.proofs.links.Links.{AreOther, ArePending, HostFits, IsDeaf, IsDue, IsEnumerating}
-use Rattle.gb_laws.proofs.links.Links.{IsFollowed, LinksFit, leaves, stays}
+use Rattle.gb_laws.proofs.links.Links.{IsFollowed, leaves, stays}
 
 -- ---- connections are given up
 
@@ -49,7 +50,7 @@ followed-left : (test : Link → Bool) (ls : List Link) (acts : List Act)
 followed-left test ls acts left l i = by (test l) refl
   where
     by : (t : Bool) → test l ≡ t → IsFollowed l (without test ls) acts
-    by false e = stays l (without-in test ls l i e) (same-link l)
+    by false e = stays l (stays-without test ls l i e) (same-link l)
     by true e = leaves (left l i e)
 
 -- and has another number
@@ -148,15 +149,9 @@ open-state : (s : ConnState) → is_unopened s ≡ false → is_ending s ≡ fal
 open-state state.Open h k f = refl
 open-state _ h k f = absurd cc
 
--- a connection doesn't take and is deaf
+-- nothing is taken, and something is
 hears : {A : Type 0} (s : ConnState) → state_takes s ≡ true → state_takes s ≡ false → A
 hears s takes deaf = absurd (not-both (state_takes s) takes deaf)
-
--- what has the number of a connection where nothing is taken is that
-one-deaf : {b : Bus} (ls : List Link) {x : Link} (k : ℕ) → LinksFit b ls → IsIn x ls
-    → x.connection ≡ k → IsDeaf x → (l : Link) → IsIn l ls → l.connection ≡ k → IsDeaf l
-one-deaf ls {x} k fits i on deaf l j e =
-    subst IsDeaf (one-link ls x l fits.rise i j (on ∙ sym e)) deaf
 
 fits-closing : {b : Bus} (i c : ℕ) (l : Link) (h : Host) → (c ≢ 0) × (l.awaits ≡ None)
     → link_at i c h ≡ Some l → HostFits b h
@@ -167,11 +162,9 @@ fits-closing {b} i c l h idle found fits = record {
   pending = (
     (
       (fits.links.numbered l at.0).from_two,
-      one-deaf (host_after (HostChange.closes i c l) h).links l.connection r.host.links
-          (changed-in (is_link i c) (in_state state.Closing) h.links l found) refl (record {
-            cport = λ z. idle.0 (sym (link-is i c l at.1).1 ∙ z);
-            takes = refl;
-          }),
+      λ k j e. subst IsDeaf (one-link _ (in_state state.Closing l) k r.host.links.rise
+          (changed-in (is_link i c) (in_state state.Closing) h.links l found) j (sym e))
+          (record { cport = λ z. idle.0 (sym at.2 ∙ z); takes = refl }),
     ),
     (tt, tt),
   );
@@ -180,8 +173,8 @@ fits-closing {b} i c l h idle found fits = record {
   come = r.come;
 }
   where
-    at : IsIn l h.links × (is_link i c l ≡ true)
-    at = found-in (is_link i c) h.links l found
+    at : IsIn l h.links × (l.intf ≡ i) × (l.cport ≡ c)
+    at = found-its i c h.links l found
 
     r : TurnFits b (with_freed l.connection h)
         (turn (host_after (HostChange.closes i c l) h) [])
@@ -235,8 +228,7 @@ module _ (b : Bus) (o : Occasion) (start : Starts b o) where
   turning-fits i c state.Open l h (step, inl why) fits =
       let due = completes-due b o (purpose i c step) steps.CreateControl h start why in
       fits-state i c state.Open l (λ k e. control-idle i c k fits due.cport e)
-      (λ k e d. absurd (d.cport
-      ((link-is i c k (found-in (is_link i c) h.links k e).1).1 ∙ due.cport)))
+      (λ k e d. absurd (d.cport ((found-its i c h.links k e).2 ∙ due.cport)))
       (λ k e drains. absurd cc) fits
   turning-fits i c state.Open l h (step, inr why) fits =
       let due = completes-due b o (purpose i c step) steps.TellConnected h start why in
@@ -245,11 +237,11 @@ module _ (b : Bus) (o : Occasion) (start : Starts b o) where
       (λ k e drains. absurd cc) fits
   turning-fits i c state.Draining l h why fits =
       fits-state i c state.Draining l (λ k e. still-idle k
-      (fits.links.waiting k (found-in (is_link i c) h.links k e).0)
+      (fits.links.waiting k (found-its i c h.links k e).0)
       (λ f. let is = open_ k e in absurd cc) (λ f. let is = open_ k e in absurd cc))
       (λ k e d. hears k.state (ap state_takes (open_ k e)) d.takes)
-      (λ k e drains z. not-both (c == 0) (ap (λ n. n == 0)
-      (sym (link-is i c k (found-in (is_link i c) h.links k e).1).1 ∙ z)) met.1.0) fits
+      (λ k e drains z. not-both (c == 0)
+      (ap (λ n. n == 0) (sym (found-its i c h.links k e).2 ∙ z)) met.1.0) fits
     where
       met : AreUnmet (drain_conditions i c h)
       met = noticed-allowed b o (at_event (host_event.Drain i c)) h start why
