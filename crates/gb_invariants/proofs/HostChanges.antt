@@ -1,7 +1,7 @@
 -- What the application processor does at what it takes notice of, or where a request can't be made,
 -- as single changes of it and one end.
-use Rattle.std.proofs.Common.{Bool, List, None, Option, Some, false, map, true, ℕ, [], ◌++◌, ◌∷◌}
-use Rattle.std.proofs.Common.{◌≡◌, ◌⊎◌}
+use Rattle.std.proofs.Common.{Bool, List, None, Option, Some, cond, false, map, refl, true, ℕ, []}
+use Rattle.std.proofs.Common.{◌++◌, ◌∷◌, ◌≡◌, ◌⊎◌}
 use Rattle.gb_base.specs.declared.entry.{ConnState.ConnState, Entry.Entry}
 use Rattle.gb_base.specs.declared.host_event.HostEvent.TheVariants as host_event
 use Rattle.gb_base.specs.declared.host_event.HostEvent.{HostEvent}
@@ -22,7 +22,7 @@ use Rattle.gb_machine.specs.SequenceSteps.{at_step, is_enumeration, purpose}
 use Rattle.gb_machine.specs.Sequences.{ap_in, asking, enumerated, opened, opens, target, way_of}
 use Rattle.gb_machine.specs.Turns.{Act, Turn, turn}
 use Rattle.gb_machine.specs.{Failures.link_told, Failures.told_of, Members.Each, Waits.awaited}
-use Rattle.gb_machine.specs.{Waits.awaits_nothing}
+use Rattle.gb_machine.specs.{Waits.awaits_nothing, Waits.waiting}
 
 -- ---- what is noticed
 
@@ -314,3 +314,24 @@ changes-ask (closes i c l) h = (tt, (tt, tt))
 changes-ask (leaves p None) h = tt
 changes-ask (leaves p (Some l)) h = (tt, (tt, tt))
 changes-ask _ h = tt
+
+-- an interface or a connection waits for something, or for nothing
+abbrev pub interface_awaits : Option (ℕ × SequenceStep) → Interface → Interface
+interface_awaits w x = record x { awaits = w }
+
+abbrev pub link_awaits : Option (ℕ × SequenceStep) → Link → Link
+link_awaits w l = record l { awaits = w }
+
+-- A sequence waits at its interface in an enumeration, and else at its connection.
+pub waiting-by : (P : Host → Type 0) (w : Option (ℕ × SequenceStep)) (p : Purpose) (h : Host)
+    → (is_enumeration p.step ≡ true → P (with_interface p.intf (interface_awaits w) h))
+    → (is_enumeration p.step ≡ false → P (with_link p.intf p.cport (link_awaits w) h))
+    → P (waiting w p h)
+waiting-by P w p h = by (is_enumeration p.step)
+  where
+    by : (t : Bool) → (t ≡ true → P (with_interface p.intf (interface_awaits w) h))
+        → (t ≡ false → P (with_link p.intf p.cport (link_awaits w) h))
+        → P (cond t (with_interface p.intf (interface_awaits w) h)
+        (with_link p.intf p.cport (link_awaits w) h))
+    by true at on = at refl
+    by false at on = on refl

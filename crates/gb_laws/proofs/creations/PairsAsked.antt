@@ -11,6 +11,7 @@ use Rattle.gb_machine.specs.Host.{Host, is_link, link_at, with_interface, with_l
 use Rattle.gb_machine.specs.SequenceSteps.{is_enumeration, is_for_connection, kind_of, payload_of}
 use Rattle.gb_machine.specs.{Members.IsIn, SvcQueues.is_for_link, SvcQueues.speaks_of_connection}
 use Rattle.gb_machine.specs.{Turns.Asking, Waits.awaits}
+use Rattle.gb_invariants.proofs.HostChanges.{waiting-by}
 use Rattle.gb_invariants.proofs.Awaiting.{none-some, not-both, same-some}
 use Rattle.gb_invariants.proofs.Lists.{in-behind, in-front, in-pushed}
 use Rattle.gb_invariants.proofs.Found.{find-changed, in-first}
@@ -41,17 +42,11 @@ module _ (b : Bus) (h : Host) (pairs : List (ℕ × ℕ)) (q : Asking) (n : ℕ)
   known : (l : Link) → IsIn l (awaits q.purpose n h).links → IsIn l h.links
       ⊎ ((x : Link) × IsIn x h.links × (link_at q.purpose.intf q.purpose.cport h ≡ Some x)
       × (l ≡ set x) × (is_enumeration q.purpose.step ≡ false))
-  known l = by (is_enumeration q.purpose.step) refl
-    where
-      by : (t : Bool) → is_enumeration q.purpose.step ≡ t
-          → IsIn l (cond t (with_interface q.purpose.intf
-          (λ x. record x { awaits = Some (n, q.purpose.step) }) h)
-          (with_link q.purpose.intf q.purpose.cport set h)).links → IsIn l h.links
-          ⊎ ((x : Link) × IsIn x h.links × (link_at q.purpose.intf q.purpose.cport h ≡ Some x)
-          × (l ≡ set x) × (is_enumeration q.purpose.step ≡ false))
-      by true e i = inl i
-      by false e i = ⊎_elim (λ o. inl o) (λ v. inr (v.0, v.1, v.2, v.3, e))
-          (in-first (is_link q.purpose.intf q.purpose.cport) set h.links l i)
+  known l = waiting-by (λ g. IsIn l g.links → IsIn l h.links
+      ⊎ ((x : Link) × IsIn x h.links × (link_at q.purpose.intf q.purpose.cport h ≡ Some x)
+      × (l ≡ set x) × (is_enumeration q.purpose.step ≡ false))) (Some (n, q.purpose.step)) q.purpose
+      h (λ e i. inl i) (λ e i. ⊎_elim (λ o. inl o) (λ v. inr (v.0, v.1, v.2, v.3, e))
+      (in-first (is_link q.purpose.intf q.purpose.cport) set h.links l i))
 
   -- the connection of the purpose, of which the request is remembered
   target-link : (l : Link) → link_at q.purpose.intf q.purpose.cport (awaits q.purpose n h) ≡ Some l

@@ -1,13 +1,14 @@
 -- What acts ask, and what interfaces wait for.
-use Rattle.std.proofs.Common.{Bool, List, None, Some, ap, cond, false, inl, inr, refl, subst, sym}
-use Rattle.std.proofs.Common.{true, ℕ, ⊎_elim, [], ◌++◌, ◌∙◌, ◌∷◌, ◌≡◌}
+use Rattle.std.proofs.Common.{Bool, List, None, Some, ap, inl, inr, refl, subst, sym}
+use Rattle.std.proofs.Common.{ℕ, ⊎_elim, [], ◌++◌, ◌∙◌, ◌∷◌, ◌≡◌}
 use Rattle.std.specs.Prelude.{not, ◌&&◌}
 use Rattle.gb_base.specs.declared.interface.Interface.{Interface}
 use Rattle.gb_base.specs.declared.steps.{Purpose.Purpose, SequenceStep.SequenceStep}
-use Rattle.gb_machine.specs.Host.{Host, is_intf, with_interface, with_link}
+use Rattle.gb_machine.specs.Host.{Host, is_intf, with_interface}
 use Rattle.gb_machine.specs.Turns.{Act, Asking, Making}
 use Rattle.gb_machine.specs.{Members.Each, Members.IsIn, SequenceSteps.asks_control}
 use Rattle.gb_machine.specs.{SequenceSteps.is_enumeration, Waits.awaits_nothing}
+use Rattle.gb_invariants.proofs.HostChanges.{waiting-by}
 use Rattle.gb_invariants.proofs.{Awaiting.none-some, HostChanges.AsksNone, Lists.in-at_first}
 
 -- ---- what is asked
@@ -101,10 +102,5 @@ waits-nothing h i x j w e =
     (in-at_first (is_intf i) (λ (y : Interface). record y { awaits = None }) h.interfaces x j)
 
 pub waits-purpose : (p : Purpose) (h : Host) → WaitsFewer h (awaits_nothing p h)
-waits-purpose p h = by (is_enumeration p.step)
-  where
-    by : (t : Bool) → WaitsFewer h (cond t
-        (with_interface p.intf (λ x. record x { awaits = None }) h)
-        (with_link p.intf p.cport (λ l. record l { awaits = None }) h))
-    by true = waits-nothing h p.intf
-    by false = same-waits h
+waits-purpose p h =
+    waiting-by (WaitsFewer h) None p h (λ e. waits-nothing h p.intf) (λ e. same-waits h)

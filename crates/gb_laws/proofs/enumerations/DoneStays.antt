@@ -6,8 +6,9 @@ use Rattle.gb_base.specs.declared.entry.IntfStage.TheVariants as stage
 use Rattle.gb_base.specs.declared.interface.Interface.{Interface}
 use Rattle.gb_base.specs.declared.steps.{Purpose.Purpose, SequenceStep.SequenceStep}
 use Rattle.gb_machine.specs.Host.{Host, is_intf, staged, with_interface, with_link}
-use Rattle.gb_machine.specs.{Lists.at_first, Members.IsIn, SequenceSteps.is_enumeration}
+use Rattle.gb_machine.specs.{Lists.at_first, Members.IsIn}
 use Rattle.gb_machine.specs.{Waits.waiting}
+use Rattle.gb_invariants.proofs.HostChanges.{interface_awaits, link_awaits, waiting-by}
 use Rattle.gb_invariants.proofs.{Lists.in-at_first, Outcomes.same-number}
 use Rattle.gb_laws.proofs.enumerations.EnumDone.{IsDone}
 
@@ -93,10 +94,6 @@ module _ (i : ℕ) where
   -- a sequence waits for something, or for nothing
   pub keeps-waiting : (w : Option (ℕ × SequenceStep)) (p : Purpose) {h : Host}
       → KeepsDone i h (waiting w p h)
-  keeps-waiting w p {h} = by (is_enumeration p.step)
-    where
-      by : (t : Bool) → KeepsDone i h (cond t
-          (with_interface p.intf (λ x. record x { awaits = w }) h)
-          (with_link p.intf p.cport (λ l. record l { awaits = w }) h))
-      by true = keeps-changed h p.intf (λ x. record x { awaits = w }) (λ x. refl) (λ x. refl)
-      by false = keeps-same h (with_link p.intf p.cport (λ l. record l { awaits = w }) h) refl
+  keeps-waiting w p {h} = waiting-by (KeepsDone i h) w p h
+      (λ e. keeps-changed h p.intf (interface_awaits w) (λ x. refl) (λ x. refl))
+      (λ e. keeps-same h (with_link p.intf p.cport (link_awaits w) h) refl)

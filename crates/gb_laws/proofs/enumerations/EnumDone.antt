@@ -1,13 +1,13 @@
 -- An interface is enumerated, and where it stays so.
-use Rattle.std.proofs.Common.{Bool, List, None, ap, cond, false, refl, sym, true, ℕ, ⊎_elim, ◌∙◌}
+use Rattle.std.proofs.Common.{List, None, ap, refl, sym, ℕ, ⊎_elim, ◌∙◌}
 use Rattle.std.proofs.Common.{◌≡◌}
 use Rattle.gb_base.specs.declared.interface.Interface.{Interface}
 use Rattle.gb_base.specs.declared.steps.Purpose.{Purpose}
 use Rattle.gb_base.specs.declared.entry.IntfStage.TheVariants as stage
 use Rattle.gb_machine.specs.Host.{Host, intf_before, is_intf, new_interface, staged, with_interface}
-use Rattle.gb_machine.specs.Host.{with_link}
-use Rattle.gb_machine.specs.{Failures.unsent, Members.IsIn, SequenceSteps.is_enumeration}
+use Rattle.gb_machine.specs.{Failures.unsent, Members.IsIn}
 use Rattle.gb_machine.specs.{Waits.awaits_nothing}
+use Rattle.gb_invariants.proofs.HostChanges.{interface_awaits, waiting-by}
 use Rattle.gb_invariants.proofs.HostChanges.{Finds, HostChange, HostEnd, IsLast, at_unsent, end_of}
 use Rattle.gb_invariants.proofs.HostChanges.{host_after}
 use Rattle.gb_invariants.proofs.{Found.in-ordered, Lists.in-at_first, Lists.in-without}
@@ -42,13 +42,8 @@ module _ (i : ℕ) where
   failed-none e = absurd cc
 
   pub done-nothing : (p : Purpose) (h : Host) → FewerDone h (awaits_nothing p h)
-  done-nothing p h = by (is_enumeration p.step)
-    where
-      by : (t : Bool) → FewerDone h (cond t
-          (with_interface p.intf (λ x. record x { awaits = None }) h)
-          (with_link p.intf p.cport (λ l. record l { awaits = None }) h))
-      by true d = done-interface h p.intf (λ x. record x { awaits = None }) (λ x. refl) (λ x e. e) d
-      by false d = d
+  done-nothing p h = waiting-by (FewerDone h) None p h
+      (λ e. done-interface h p.intf (interface_awaits None) (λ x. refl) (λ x e. e)) (λ e d. d)
 
   -- no change enumerates an interface
   pub change-done : (x : HostChange) (h : Host) → Finds h x → FewerDone h (host_after x h)

@@ -24,6 +24,7 @@ use Rattle.gb_machine.specs.SequenceSteps.{is_enumeration}
 use Rattle.gb_machine.specs.Serving.{protocol_bad}
 use Rattle.gb_machine.specs.State.{State}
 use Rattle.gb_machine.specs.Waits.{waiting}
+use Rattle.gb_invariants.proofs.HostChanges.{waiting-by}
 use Rattle.gb_invariants.proofs.HostChanges.{HostChange, HostEnd, Notice, Occasion, TurnLaw}
 use Rattle.gb_invariants.proofs.HostChanges.{at_notice, at_unsent, end_of, host_after, turn_of}
 use Rattle.gb_invariants.proofs.Lists.{found-in}
@@ -72,14 +73,8 @@ unsent-fewer p h = over-unsent p h (fewer_law (at_unsent p h))
 
 awaited-images : (p : Purpose) (n : ℕ) (s : State)
     → (with_awaited p n s).host.images ≡ s.host.images
-awaited-images p n s = ap (λ (h : Host). h.images) (awaited-host p n s) ∙ by (is_enumeration p.step)
-  where
-    by : (t : Bool) → (cond t
-        (with_interface p.intf (λ y. record y { awaits = Some (n, p.step) }) s.host)
-        (with_link p.intf p.cport (λ l. record l { awaits = Some (n, p.step) }) s.host)).images
-        ≡ s.host.images
-    by true = refl
-    by false = refl
+awaited-images p n s = ap (λ (h : Host). h.images) (awaited-host p n s)
+    ∙ waiting-by (λ h. h.images ≡ s.host.images) (Some (n, p.step)) p s.host (λ e. refl) (λ e. refl)
 
 -- ---- what is served
 

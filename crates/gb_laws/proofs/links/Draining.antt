@@ -8,10 +8,10 @@ use Rattle.gb_base.specs.declared.interface.Link.{Link}
 use Rattle.gb_base.specs.declared.steps.{Purpose.Purpose, SequenceStep.SequenceStep}
 use Rattle.gb_base.specs.declared.entry.ConnState.TheVariants as state
 use Rattle.gb_machine.specs.Host.{Host, in_state, is_draining, is_link, link_at, link_of}
-use Rattle.gb_machine.specs.Host.{with_interface, with_link}
 use Rattle.gb_machine.specs.{Failures.unsent, Lists.at_first, Lists.without}
 use Rattle.gb_machine.specs.{Members.Each, Members.EachTwo, Members.IsIn}
-use Rattle.gb_machine.specs.{SequenceSteps.is_enumeration, Waits.waiting}
+use Rattle.gb_machine.specs.{Waits.waiting}
+use Rattle.gb_invariants.proofs.HostChanges.{link_awaits, waiting-by}
 use Rattle.gb_invariants.proofs.HostChanges.{HostChange, HostEnd, Occasion, TurnLaw, at_notice}
 use Rattle.gb_invariants.proofs.HostChanges.{at_unsent, end_of, host_after}
 use Rattle.gb_invariants.proofs.Lists.{each-from, each-in, each-weaker, found-in, two-filter}
@@ -107,14 +107,9 @@ drains-without test ls first = two-filter RestsBehind (λ l. not (test l)) ls fi
 -- a sequence waits for something, or for nothing
 pub drains-waiting : (w : Option (ℕ × SequenceStep)) (p : Purpose) (h : Host)
     → FirstDrains h.links → FirstDrains (waiting w p h).links
-drains-waiting w p h first = by (is_enumeration p.step)
-  where
-    by : (t : Bool) → FirstDrains (cond t
-        (with_interface p.intf (λ x. record x { awaits = w }) h)
-        (with_link p.intf p.cport (λ l. record l { awaits = w }) h)).links
-    by true = first
-    by false =
-        drains-changed p.intf p.cport (λ l. record l { awaits = w }) (awaits-link w) h.links first
+drains-waiting w p h first =
+    waiting-by (λ g. FirstDrains g.links) w p h (λ e. first)
+    (λ e. drains-changed p.intf p.cport (link_awaits w) (awaits-link w) h.links first)
 
 -- ---- turns
 

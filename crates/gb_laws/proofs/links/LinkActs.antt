@@ -11,7 +11,7 @@ use Rattle.gb_formats.specs.{Records.PayloadFault, SvcRecords.SvcAsk}
 use Rattle.gb_formats.specs.{SvcRecords.read_svc_ask_of_svc, UartDevice.credits_added}
 use Rattle.gb_formats.specs.{UartRecords.UartAsk, UartRecords.read_uart_ask_of_module}
 use Rattle.gb_machine.specs.Failures.{unsent}
-use Rattle.gb_machine.specs.Host.{Host, is_intf, link_at, link_of, with_interface}
+use Rattle.gb_machine.specs.Host.{Host, is_intf, link_at, link_of}
 use Rattle.gb_machine.specs.Host.{with_link}
 use Rattle.gb_machine.specs.HostServing.{HostServed, credited, host_serves, interrupted}
 use Rattle.gb_machine.specs.HostServing.{notified_by, served_on, uart_notified_by, with_credits}
@@ -19,6 +19,7 @@ use Rattle.gb_machine.specs.Turns.{Act, Asking, Making, failed_turn}
 use Rattle.gb_machine.specs.{Bus.Bus, Bus.Connection, HostActs.made_for, HostActs.with_awaited}
 use Rattle.gb_machine.specs.{Members.IsIn, SequenceSteps.is_enumeration}
 use Rattle.gb_machine.specs.{SequenceSteps.is_for_connection, State.State, Waits.awaits}
+use Rattle.gb_invariants.proofs.HostChanges.{interface_awaits, link_awaits, waiting-by}
 use Rattle.gb_invariants.proofs.{Awaiting.not-both, Awaiting.same-some, HostChanges.is_creating}
 use Rattle.gb_invariants.proofs.{Lists.in-at_first}
 use Rattle.gb_invariants.proofs.{Outcomes.same-number}
@@ -72,19 +73,10 @@ linked-last b h x rest none other f = record {
 -- a step's request was made
 pub awaits-fits : {b : Bus} (p : Purpose) (n : ℕ) {h : Host} → HostFits b h → IsDue p.step p h
     → HostFits b (awaits p n h) × Stay h.links (awaits p n h).links
-awaits-fits {b} p n {h} fits due = by (is_enumeration p.step) refl due
-  where
-    wait : ℕ × SequenceStep
-    wait = (n, p.step)
-
-    by : (t : Bool) → is_enumeration p.step ≡ t → IsDueBy t p.step p h
-        → HostFits b (cond t (with_interface p.intf (λ x. record x { awaits = Some (n, p.step) }) h)
-        (with_link p.intf p.cport (λ l. record l { awaits = Some (n, p.step) }) h))
-        × Stay h.links (cond t
-        (with_interface p.intf (λ x. record x { awaits = Some (n, p.step) }) h)
-        (with_link p.intf p.cport (λ l. record l { awaits = Some (n, p.step) }) h)).links
-    by true e next = (
-      host-interface p.intf (λ x. record x { awaits = Some (n, p.step) }) (λ x. refl)
+awaits-fits {b} p n {h} fits due =
+    waiting-by (λ g. HostFits b g × Stay h.links g.links) (Some wait) p h
+    (λ e. let next = subst (λ t. IsDueBy t p.step p h) e due in (
+      host-interface p.intf (interface_awaits (Some wait)) (λ x. refl)
           (λ x i at old w f. (
             ap (λ (y : ℕ × SequenceStep). is_enumeration y.1) (sym (same-some wait w f)) ∙ e,
             λ early. subst (λ k. HasNoControl k h.links) (sym (same-number x.intf p.intf at))
@@ -92,10 +84,8 @@ awaits-fits {b} p n {h} fits due = by (is_enumeration p.step) refl due
                 ∙ early)),
           )) fits,
       stay-same h.links,
-    )
-    by false e idle = (
-      host-link p.intf p.cport (λ l. record l { awaits = Some (n, p.step) })
-          (awaits-link (Some (n, p.step)))
+    )) (λ e. let idle = subst (λ t. IsDueBy t p.step p h) e due in (
+      host-link p.intf p.cport (link_awaits (Some wait)) (awaits-link (Some wait))
           (λ l found. record {
             waiting = λ old w f. (
               λ z. idle.cport (sym (found-its p.intf p.cport h.links l found).2 ∙ z),
@@ -105,9 +95,11 @@ awaits-fits {b} p n {h} fits due = by (is_enumeration p.step) refl due
             deaf = λ d. record { cport = d.cport; takes = d.takes };
             draining = λ d. d;
           }) fits,
-      stay-changed h.links p.intf p.cport (λ l. record l { awaits = Some (n, p.step) })
-          (awaits-link (Some (n, p.step))),
-    )
+      stay-changed h.links p.intf p.cport (link_awaits (Some wait)) (awaits-link (Some wait)),
+    ))
+  where
+    wait : ℕ × SequenceStep
+    wait = (n, p.step)
 
 pub awaited-host : (p : Purpose) (n : ℕ) (s : State) → (with_awaited p n s).host ≡ awaits p n s.host
 awaited-host p n s = by (is_for_connection p.step) (link_at p.intf p.cport (awaits p n s.host))
@@ -128,23 +120,14 @@ pub awaited-interface : (p : Purpose) (n : ℕ) (s : State) (x : Interface) (w :
     → IsIn x (with_awaited p n s).host.interfaces → x.awaits ≡ Some w
     → IsIn x s.host.interfaces
     ⊎ ((p.intf ≡ x.intf) × ((n, p.step) ≡ w) × (is_enumeration p.step ≡ true))
-awaited-interface p n s x w i e =
-    by (is_enumeration p.step) refl
-    (subst (λ (h : Host). IsIn x h.interfaces) (awaited-host p n s) i)
-  where
-    by : (t : Bool) → is_enumeration p.step ≡ t
-        → IsIn x (cond t
-        (with_interface p.intf (λ y. record y { awaits = Some (n, p.step) }) s.host)
-        (with_link p.intf p.cport (λ l. record l { awaits = Some (n, p.step) }) s.host)).interfaces
-        → IsIn x s.host.interfaces
-        ⊎ ((p.intf ≡ x.intf) × ((n, p.step) ≡ w) × (is_enumeration p.step ≡ true))
-    by false t j = inl j
-    by true t j = ⊎_elim inl (λ u. inr (
+awaited-interface p n s x w i e = waiting-by (λ h. IsIn x h.interfaces → IsIn x s.host.interfaces
+    ⊎ ((p.intf ≡ x.intf) × ((n, p.step) ≡ w) × (is_enumeration p.step ≡ true)))
+    (Some (n, p.step)) p s.host (λ t j. ⊎_elim inl (λ u. inr (
       sym (same-number u.0.intf p.intf u.2) ∙ sym (ap (λ (y : Interface). y.intf) u.3),
       same-some (n, p.step) w (sym (ap (λ (y : Interface). y.awaits) u.3) ∙ e),
       t,
-    )) (in-at_first (is_intf p.intf) (λ (y : Interface). record y { awaits = Some (n, p.step) })
-        s.host.interfaces x j)
+    )) (in-at_first (is_intf p.intf) (interface_awaits (Some (n, p.step))) s.host.interfaces x j))
+    (λ t j. inl j) (subst (λ (h : Host). IsIn x h.interfaces) (awaited-host p n s) i)
 
 pub linked-asked : (q : Asking) (n : ℕ) (rest : List Act) (s : State)
     → Linked s.bus s.host (Act.Ask q ∷ rest)

@@ -1,7 +1,7 @@
 -- What turns of the application processor make of connections that are closing, and which
 -- connections they give up.
-use Rattle.std.proofs.Common.{Bool, List, None, Option, Some, ap, cond, false, inl, inr, refl}
-use Rattle.std.proofs.Common.{subst, sym, true, ℕ, ⊎_elim, [], ◌++◌, ◌∙◌, ◌∷◌, ◌≡◌, ◌≢◌, ◌⊎◌}
+use Rattle.std.proofs.Common.{List, None, Option, Some, ap, inl, inr, refl}
+use Rattle.std.proofs.Common.{subst, sym, ℕ, ⊎_elim, [], ◌++◌, ◌∙◌, ◌∷◌, ◌≡◌, ◌≢◌, ◌⊎◌}
 use Rattle.std.specs.Prelude.{◌==◌}
 use Rattle.gb_base.specs.declared.entry.ConnState.{ConnState}
 use Rattle.gb_base.specs.declared.interface.Link.{Link}
@@ -12,8 +12,9 @@ use Rattle.gb_machine.specs.Host.{Host, in_state, is_link, link_at, with_interfa
 use Rattle.gb_machine.specs.Host.{without_link}
 use Rattle.gb_machine.specs.HostTurns.{links_left, links_of, without_interface}
 use Rattle.gb_machine.specs.Turns.{Act, Turn}
-use Rattle.gb_machine.specs.{Bus.Bus, Failures.unsent, Members.IsIn, SequenceSteps.is_enumeration}
+use Rattle.gb_machine.specs.{Bus.Bus, Failures.unsent, Members.IsIn}
 use Rattle.gb_machine.specs.{Sequences.enumerated, Waits.waiting}
+use Rattle.gb_invariants.proofs.HostChanges.{interface_awaits, link_awaits, waiting-by}
 use Rattle.gb_invariants.proofs.HostChanges.{Completes, Finds, HostChange, HostEnd, IsFor, IsLast}
 use Rattle.gb_invariants.proofs.HostChanges.{Occasion, TurnsFor, TurnLaw, acts_by, at_notice}
 use Rattle.gb_invariants.proofs.HostChanges.{at_unsent, end_of, host_after}
@@ -88,12 +89,9 @@ fewer-without h g in_h n x =
 -- a sequence waits for something, or for nothing
 pub fewer-waiting : (w : Option (ℕ × SequenceStep)) (p : Purpose) (h : Host)
     → ClosesFewer h (waiting w p h)
-fewer-waiting w p h = by (is_enumeration p.step)
-  where
-    by : (t : Bool) → ClosesFewer h (cond t (with_interface p.intf (λ x. record x { awaits = w }) h)
-        (with_link p.intf p.cport (λ l. record l { awaits = w }) h))
-    by true = fewer-links h (with_interface p.intf (λ x. record x { awaits = w }) h) refl
-    by false = fewer-kept p.intf p.cport (λ l. record l { awaits = w }) h (λ l. refl) (λ l. refl)
+fewer-waiting w p h = waiting-by (ClosesFewer h) w p h
+    (λ e. fewer-links h (with_interface p.intf (interface_awaits w) h) refl)
+    (λ e. fewer-kept p.intf p.cport (link_awaits w) h (λ l. refl) (λ l. refl))
 
 -- ---- changes
 

@@ -1,6 +1,6 @@
 -- The application processor's connections behind a turn come from those before it, and
 -- keep their credits.
-use Rattle.std.proofs.Common.{Bool, None, Option, ap, cond, false, inl, inr, refl, subst, sym, true}
+use Rattle.std.proofs.Common.{None, Option, ap, inl, inr, refl, subst, sym}
 use Rattle.std.proofs.Common.{ℕ, ⊎_elim, ◌∙◌, ◌≡◌, ◌⊎◌}
 use Rattle.std.specs.Prelude.{◌==◌}
 use Rattle.gb_base.specs.declared.entry.ConnState.{ConnState}
@@ -9,8 +9,9 @@ use Rattle.gb_base.specs.declared.steps.{Purpose.Purpose, SequenceStep.SequenceS
 use Rattle.gb_base.specs.declared.entry.ConnState.TheVariants as state
 use Rattle.gb_machine.specs.Host.{Host, in_state, is_link, with_interface, with_link, without_link}
 use Rattle.gb_machine.specs.{Failures.unsent, HostTurns.without_interface}
-use Rattle.gb_machine.specs.{Members.IsIn, SequenceSteps.is_enumeration}
+use Rattle.gb_machine.specs.{Members.IsIn}
 use Rattle.gb_machine.specs.{Waits.waiting}
+use Rattle.gb_invariants.proofs.HostChanges.{interface_awaits, link_awaits, waiting-by}
 use Rattle.gb_invariants.proofs.HostChanges.{HostChange, HostEnd, Occasion, TurnLaw, at_notice}
 use Rattle.gb_invariants.proofs.HostChanges.{at_unsent, end_of, host_after}
 use Rattle.gb_invariants.proofs.{Found.in-first, Lists.in-without, OverTurns.over-turn}
@@ -95,14 +96,9 @@ from-without h g in_h l i =
 -- where a sequence waits for something, or for nothing
 pub from-waiting : (w : Option (ℕ × SequenceStep)) (p : Purpose) (h : Host)
     → LinksFrom w h (waiting w p h)
-from-waiting w p h = by (is_enumeration p.step)
-  where
-    by : (t : Bool) → LinksFrom w h (cond t (with_interface p.intf (λ x. record x { awaits = w }) h)
-        (with_link p.intf p.cport (λ l. record l { awaits = w }) h))
-    by true = from-links h (with_interface p.intf (λ x. record x { awaits = w }) h) refl
-    by false = from-kept p.intf p.cport (λ l. record l { awaits = w }) h
-        (awaits-link w)
-        (λ l. refl) (λ l. inr refl)
+from-waiting w p h = waiting-by (LinksFrom w h) w p h
+    (λ e. from-links h (with_interface p.intf (interface_awaits w) h) refl)
+    (λ e. from-kept p.intf p.cport (link_awaits w) h (awaits-link w) (λ l. refl) (λ l. inr refl))
 
 -- ---- changes and turns
 

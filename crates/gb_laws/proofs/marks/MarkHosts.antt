@@ -7,12 +7,12 @@ use Rattle.gb_base.specs.declared.steps.Purpose.{Purpose}
 use Rattle.gb_base.specs.declared.steps.SequenceStep.{SequenceStep}
 use Rattle.gb_base.specs.declared.entry.IntfStage.TheVariants as stage
 use Rattle.gb_machine.specs.Host.{Host, intf_before, is_intf, new_interface, staged, with_interface}
-use Rattle.gb_machine.specs.Host.{with_link}
 use Rattle.gb_machine.specs.Sequences.{enumerated}
 use Rattle.gb_machine.specs.{HostActs.made_for, HostActs.with_awaited, Host.link_at, Members.IsIn}
-use Rattle.gb_machine.specs.{Failures.unsent, HostServing.host_serves, SequenceSteps.is_enumeration}
+use Rattle.gb_machine.specs.{Failures.unsent, HostServing.host_serves}
 use Rattle.gb_machine.specs.{SequenceSteps.is_for_connection, State.State, Waits.awaits}
 use Rattle.gb_machine.specs.{Waits.waiting}
+use Rattle.gb_invariants.proofs.HostChanges.{interface_awaits, waiting-by}
 use Rattle.gb_invariants.proofs.HostChanges.{Finds, HostChange, HostEnd, IsFor, IsLast, Notice}
 use Rattle.gb_invariants.proofs.HostChanges.{Occasion, TurnLaw, at_insertion, at_notice, at_unsent}
 use Rattle.gb_invariants.proofs.HostChanges.{end_of, host_after, turn_of}
@@ -50,13 +50,8 @@ fewer-with i f h intf primary x k = ⊎_elim (λ o. named-one h x o)
 
 fewer-waiting : (w : Option (ℕ × SequenceStep)) (p : Purpose) (h : Host)
     → NamesFewer h (waiting w p h)
-fewer-waiting w p h = by (is_enumeration p.step)
-  where
-    by : (t : Bool) → NamesFewer h (cond t
-        (with_interface p.intf (λ x. record x { awaits = w }) h)
-        (with_link p.intf p.cport (λ l. record l { awaits = w }) h))
-    by true = fewer-with p.intf (λ x. record x { awaits = w }) h (λ x. refl) (λ x. refl)
-    by false = named-one h
+fewer-waiting w p h = waiting-by (NamesFewer h) w p h
+    (λ e. fewer-with p.intf (interface_awaits w) h (λ x. refl) (λ x. refl)) (λ e. named-one h)
 
 -- what an occasion makes known
 abbrev pub IsNew : Occasion → ℕ → ℕ → Type 0
