@@ -12,6 +12,7 @@ use Rattle.gb_machine.specs.HostTurns.{host_inserted, host_removed, host_turn, l
 use Rattle.gb_machine.specs.Waits.{awaits_nothing}
 use Rattle.gb_machine.specs.{Bus.Bus, Failures.told_of, Members.IsIn}
 use Rattle.gb_machine.specs.{SequenceSteps.is_enumeration, Turns.Act}
+use Rattle.gb_invariants.proofs.HostChanges.{link_awaits}
 use Rattle.gb_invariants.proofs.HostChanges.{Finds, HostChange, HostEnd, IsAnswered, IsFor, acts_by}
 use Rattle.gb_invariants.proofs.HostChanges.{at_notice, end_of}
 use Rattle.gb_invariants.proofs.{Awaiting.not-both, Awaiting.same-some, Found.find-changed}
@@ -33,9 +34,6 @@ pub data WhyLeft (h : Host) (e : Notice) (k : ℕ) : Type 0 where
       → e ≡ at_event (host_event.Ended n (outcome.Answered result payload)) → IsIn l h.links
       → l.awaits ≡ Some (n, steps.DestroyConnection) → l.connection ≡ k → WhyLeft h e k
 
-abbrev idle : Link → Link
-idle l = record l { awaits = None }
-
 -- the connection that a close waits on is the one that is found behind its last answer
 why-closed : (b : Bus) (h : Host) (e : Notice) (p : Purpose) (l : Link) → HostFits b h
     → IsAnswered e h p → p.step ≡ steps.DestroyConnection
@@ -46,13 +44,13 @@ why-closed b h e p l fits r last found = by (waits-for r.number h p r.awaited)
     by (enumerating x i intf cport awaits) = absurd (not-both (is_enumeration p.step)
         (fits.interfaces x i (r.number, p.step) awaits).0 (ap is_enumeration last))
     by (connecting k i intf cport awaits) =
-        let then : link_at p.intf p.cport (awaits_nothing p h) ≡ Some (idle k) =
+        let then : link_at p.intf p.cport (awaits_nothing p h) ≡ Some (link_awaits None k) =
         ap (λ s. link_at p.intf p.cport (awaits_nothing (record p { step = s }) h)) last
-        ∙ find-changed (is_link p.intf p.cport) idle h.links (λ x. refl)
-        ∙ ap (option_map idle) (found-there h.links k fits.links.rise i intf cport) in
+        ∙ find-changed (is_link p.intf p.cport) (link_awaits None) h.links (λ x. refl)
+        ∙ ap (option_map (link_awaits None)) (found-there h.links k fits.links.rise i intf cport) in
         closed r.number r.result r.payload k r.is i
         (awaits ∙ ap (λ s. Some (r.number, s)) last)
-        (ap (λ (y : Link). y.connection) (same-some (idle k) l (sym then ∙ found)))
+        (ap (λ (y : Link). y.connection) (same-some (link_awaits None k) l (sym then ∙ found)))
 
 -- ---- changes
 
