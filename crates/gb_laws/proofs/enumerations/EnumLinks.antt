@@ -219,10 +219,10 @@ links-kept m absent i a (acts_made w q rest free is) links settled h = record {
     asked : (r : Asking) → AsksIn r (Act.Ask q ∷ rest) → AsksIn r a.pending
     asked r j = asks-kept m a (acts_made w q rest free is) tt r j
 
-    step : w.cport ≢ 0 → IsMaking w q.purpose.step → is_enumeration q.purpose.step ≡ false
+    step : w.cport ≢ 0 → IsMaking w.cport q.purpose.step → is_enumeration q.purpose.step ≡ false
     step other s = by q.purpose.step s
       where
-        by : (t : _) → IsMaking w t → is_enumeration t ≡ false
+        by : (t : _) → IsMaking w.cport t → is_enumeration t ≡ false
         by _ (control zero) = absurd (other zero)
         by _ (connection k) = refl
 

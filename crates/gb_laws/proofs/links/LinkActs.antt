@@ -15,7 +15,7 @@ use Rattle.gb_machine.specs.Host.{Host, is_intf, link_at, link_of}
 use Rattle.gb_machine.specs.Host.{with_link}
 use Rattle.gb_machine.specs.HostServing.{HostServed, credited, host_serves, interrupted}
 use Rattle.gb_machine.specs.HostServing.{notified_by, served_on, uart_notified_by, with_credits}
-use Rattle.gb_machine.specs.Turns.{Act, Asking, Making, failed_turn}
+use Rattle.gb_machine.specs.Turns.{Act, Asking, failed_turn}
 use Rattle.gb_machine.specs.{Bus.Bus, Bus.Connection, HostActs.made_for, HostActs.with_awaited}
 use Rattle.gb_machine.specs.{Members.IsIn, SequenceSteps.is_enumeration}
 use Rattle.gb_machine.specs.{SequenceSteps.is_for_connection, State.State, Waits.awaits}
@@ -25,11 +25,12 @@ use Rattle.gb_invariants.proofs.{Lists.in-at_first}
 use Rattle.gb_invariants.proofs.{Outcomes.same-number}
 use Rattle.gb_laws.proofs.links.LinkHosts.{Stay, awaits-link, credits-link, host-images}
 use Rattle.gb_laws.proofs.links.LinkHosts.{host-interface, host-link, stay-changed, stay-same}
+use Rattle.gb_laws.proofs.links.LinkDue.{making-creates}
 use Rattle.gb_laws.proofs.links.LinkTurns.{unsent-fits}
 use Rattle.gb_laws.proofs.links.LinkFits.{TurnFits}
 use Rattle.gb_laws.proofs.links.Links.{ArePending}
 use Rattle.gb_laws.proofs.links.Links.{HasNoControl, HostFits, IsAtStep, IsDue, IsDueBy, IsFollowed}
-use Rattle.gb_laws.proofs.links.Links.{IsKnown, IsMaking, SameLink, connection, control}
+use Rattle.gb_laws.proofs.links.Links.{IsKnown, SameLink}
 use Rattle.gb_laws.proofs.links.Links.{is_early, leaves, leaving, linked, stays, supervisory}
 use Rattle.gb_laws.proofs.points.LoaderFacts.{same-plugs}
 use Rattle.gb_laws.proofs.points.Points.{IsAsking, SamePlugs, asking, opening}
@@ -148,11 +149,6 @@ none-leaves k [] i = i
 none-leaves k (e ∷ es) (inl f) = absurd cc
 none-leaves k (e ∷ es) (inr i) = none-leaves k es i
 
--- a step with which a connection is made asks for a new one
-making-creates : (w : Making) (step : SequenceStep) → IsMaking w step → is_creating step ≡ true
-making-creates w _ (control zero_cport) = refl
-making-creates w _ (connection other) = refl
-
 -- what fails keeps the facts, and connections stay
 pub unsent-stays : {b : Bus} (q : Asking) {rest acts : List Act} {h : Host} → IsAsking q acts rest
     → ArePending h acts → HostFits b h
@@ -166,7 +162,7 @@ unsent-stays {b} q {rest} {acts} {h} why pending fits =
         → IsDue q.purpose.step q.purpose h
     due (asking is) plain = (subst (ArePending h) is pending).0.0
     due (opening v is) plain = absurd (not-both (is_creating q.purpose.step)
-        (making-creates v q.purpose.step (subst (ArePending h) is pending).0.0.step) plain)
+        (making-creates (subst (ArePending h) is pending).0.0.step) plain)
 
     by : (l : Link) → IsFollowed l (unsent q.purpose h).host.links
         (map Act.Tell (unsent q.purpose h).told) → (k : Link)
