@@ -1,7 +1,8 @@
 -- What the application processor does at what it takes notice of, or where a request can't be made,
 -- as single changes of it and one end.
 use Rattle.std.proofs.Common.{Bool, List, None, Option, Some, cond, false, map, refl, true, ℕ, []}
-use Rattle.std.proofs.Common.{◌++◌, ◌∷◌, ◌≡◌, ◌⊎◌}
+use Rattle.std.proofs.Common.{subst, ◌++◌, ◌∷◌, ◌≡◌, ◌⊎◌}
+use Rattle.std.specs.Prelude.{IfSome}
 use Rattle.gb_base.specs.declared.entry.{ConnState.ConnState, Entry.Entry}
 use Rattle.gb_base.specs.declared.host_event.HostEvent.TheVariants as host_event
 use Rattle.gb_base.specs.declared.host_event.HostEvent.{HostEvent}
@@ -159,6 +160,19 @@ step_behind steps.TellConnected = None
 step_behind steps.TellDisconnecting = Some steps.TellDisconnected
 step_behind steps.TellDisconnected = Some steps.DestroyConnection
 step_behind steps.DestroyConnection = None
+
+-- the step before one is of an enumeration where that is
+kind-behind : (s : SequenceStep)
+    → IfSome (step_behind s) (λ t. is_enumeration s ≡ is_enumeration t)
+kind-behind steps.AskManifest = tt
+kind-behind steps.TellConnected = tt
+kind-behind steps.DestroyConnection = tt
+kind-behind _ = refl
+
+-- so it is where a step follows a step
+pub same-kind : (s : SequenceStep) {t : SequenceStep} → step_behind s ≡ Some t
+    → is_enumeration s ≡ is_enumeration t
+same-kind s e = subst (λ o. IfSome o (λ t. is_enumeration s ≡ is_enumeration t)) e (kind-behind s)
 
 -- A request ended for which a sequence waited.
 pub record IsEnded (x : Notice) (before : Host) (p : Purpose) : Type 0 where

@@ -27,7 +27,8 @@ use Rattle.gb_machine.specs.Sequences.{manifest_checked, opened, opened_told, pa
 use Rattle.gb_machine.specs.Sequences.{size_in, size_known, step_answered, step_asked, step_done}
 use Rattle.gb_machine.specs.Turns.{Act, failed_turn, turn}
 use Rattle.gb_machine.specs.Waits.{awaited, awaits_nothing}
-use Rattle.gb_invariants.proofs.HostChanges.{FailsAt, IsAnswered, IsAskedAt, IsBehind}
+use Rattle.gb_invariants.proofs.HostChanges.{same-kind}
+use Rattle.gb_invariants.proofs.HostChanges.{FailsAt, IsAnswered, IsBehind}
 use Rattle.gb_invariants.proofs.HostChanges.{IsClosingFor, IsEnded, Keeps, Notice}
 use Rattle.gb_invariants.proofs.HostChanges.{TurnLaw, arrives, as_answered, asks, at_event}
 use Rattle.gb_invariants.proofs.HostChanges.{at_insertion, at_notice, at_removal}
@@ -55,9 +56,8 @@ module _ (x : Notice) (before : Host) (law : TurnLaw (at_notice x before)) where
     abbrev here : Host
     here = awaits_nothing p before
 
-    fail : (step : SequenceStep) → p.step ≡ step → is_enumeration step ≡ true
-        → FailsAt (at_notice x before) p.intf
-    fail step at is = (
+    fail : is_enumeration p.step ≡ true → FailsAt (at_notice x before) p.intf
+    fail is = (
       p,
       record {
         number = answered.number;
@@ -65,39 +65,32 @@ module _ (x : Notice) (before : Host) (law : TurnLaw (at_notice x before)) where
         is = answered.is;
         awaited = answered.awaited;
       },
-      ap is_enumeration at ∙ is,
+      is,
       refl,
     )
 
-    next : (step later : SequenceStep) (h : Host) → p.step ≡ step → step_behind step ≡ Some later
-        → IsBehind p here h → IsAskedAt x before (at_step later p) h
-    next step later h at is behind =
-        to_go_on p later answered (ap step_behind at ∙ is) refl behind
-
     -- the next step is asked
-    goes : (step later : SequenceStep) (h : Host) → p.step ≡ step → step_behind step ≡ Some later
-        → is_creating later ≡ false → (is_enumeration later ≡ true → is_enumeration step ≡ true)
-        → IsBehind p here h → law.says h (step_asked (at_step later p) h)
-    goes step later h at is plain same behind =
-        asked (at_notice x before) law (at_step later p) h (next step later h at is behind) plain
-        (λ s. fail step at (same s))
+    goes : (later : SequenceStep) (h : Host) → step_behind p.step ≡ Some later
+        → is_creating later ≡ false → IsBehind p here h
+        → law.says h (step_asked (at_step later p) h)
+    goes later h next plain behind =
+        asked (at_notice x before) law (at_step later p) h
+        (to_go_on p later answered next refl behind) plain
+        (λ s. fail (same-kind p.step next ∙ s))
 
     -- and its interface has changed
-    goes-updated : (step later : SequenceStep) (f : Interface → Interface) → p.step ≡ step
-        → step_behind step ≡ Some later → is_creating later ≡ false
-        → is_enumeration step ≡ true → Keeps f
+    goes-updated : (later : SequenceStep) (f : Interface → Interface)
+        → step_behind p.step ≡ Some later → is_creating later ≡ false → Keeps f
         → law.says here (step_asked (at_step later p) (with_interface p.intf f here))
-    goes-updated step later f at is plain same keeps =
+    goes-updated later f next plain keeps =
         updated (at_notice x before) law p.intf f here _ keeps
-        (goes step later (with_interface p.intf f here) at is plain (λ s. same)
-        (with_update f keeps refl))
+        (goes later (with_interface p.intf f here) next plain (with_update f keeps refl))
 
     -- or its interface fails
-    interface-failed : (step later : SequenceStep) (h : Host) → p.step ≡ step
-        → is_enumeration step ≡ true
-        → law.says h (failed_turn (interface_fails (at_step later p) h))
-    interface-failed step later h at is =
-        interface-fails (at_notice x before) law (at_step later p) h (fail step at is)
+    interface-failed : (later : SequenceStep) → is_enumeration p.step ≡ true
+        → law.says here (failed_turn (interface_fails (at_step later p) here))
+    interface-failed later is =
+        interface-fails (at_notice x before) law (at_step later p) here (fail is)
 
     checked : (r : Result Manifest Refused) (bytes : List ℕ) → p.step ≡ steps.AskManifest
         → law.says here (manifest_checked r p bytes here)
@@ -105,36 +98,36 @@ module _ (x : Notice) (before : Host) (law : TurnLaw (at_notice x before)) where
     checked (Err why) bytes at =
         told (at_notice x before) law (entry.Manifest p.intf why.at why.reason) here
         (failed_turn (interface_fails p here)) tt
-        (interface-fails (at_notice x before) law p here (fail steps.AskManifest at refl))
+        (interface-fails (at_notice x before) law p here (fail (ap is_enumeration at)))
 
     done : (step : SequenceStep) (payload : List ℕ) → p.step ≡ step
         → law.says here (step_done step p payload here)
     done steps.EnableVsys payload at =
-        goes steps.EnableVsys steps.EnableRefclk here at refl refl (λ s. refl) (as_answered refl)
+        goes steps.EnableRefclk here (ap step_behind at) refl (as_answered refl)
     done steps.EnableRefclk payload at =
-        goes steps.EnableRefclk steps.EnableUnipro here at refl refl (λ s. refl) (as_answered refl)
+        goes steps.EnableUnipro here (ap step_behind at) refl (as_answered refl)
     done steps.EnableUnipro payload at =
-        goes steps.EnableUnipro steps.Activate here at refl refl (λ s. refl) (as_answered refl)
+        goes steps.Activate here (ap step_behind at) refl (as_answered refl)
     done steps.Activate payload at = by (free_device here)
       where
         by : (o : Option ℕ)
             → law.says here (begins_device o (at_step steps.GiveDevice p) here)
-        by None = interface-failed steps.Activate steps.GiveDevice here at refl
+        by None = interface-failed steps.GiveDevice (ap is_enumeration at)
         by (Some d) =
             let f = λ (x : Interface). record x { device = Some d } in
-            goes-updated steps.Activate steps.GiveDevice f at refl refl refl
+            goes-updated steps.GiveDevice f (ap step_behind at) refl
             (keeps-all f (λ x. refl) (λ x. refl) (λ x. refl) (λ x. refl))
     done steps.GiveDevice payload at =
         let f = λ (x : Interface). record x { has_device = true } in
-        goes-updated steps.GiveDevice steps.CreateRoute f at refl refl refl
+        goes-updated steps.CreateRoute f (ap step_behind at) refl
         (keeps-all f (λ x. refl) (λ x. refl) (λ x. refl) (λ x. refl))
     done steps.CreateRoute payload at = by (free_cport here) refl
       where
         by : (o : Option ℕ) → free_cport here ≡ o
             → law.says here (begins_control o (at_step steps.CreateControl p) here)
-        by None free = interface-failed steps.CreateRoute steps.CreateControl here at refl
+        by None free = interface-failed steps.CreateControl (ap is_enumeration at)
         by (Some a) free = law.ends (makes a 0 (at_step steps.CreateControl p)) here (
-          next steps.CreateRoute steps.CreateControl here at refl (as_answered refl),
+          to_go_on p steps.CreateControl answered (ap step_behind at) refl (as_answered refl),
           refl,
           free,
         )
@@ -143,7 +136,7 @@ module _ (x : Notice) (before : Host) (law : TurnLaw (at_notice x before)) where
         asks-version : law.says (opened p here)
             (step_asked (at_step steps.AskVersion p) (opened p here))
         asks-version =
-            goes steps.CreateControl steps.AskVersion (opened p here) at refl refl (λ s. refl)
+            goes steps.AskVersion (opened p here) (ap step_behind at) refl
             (with_control at refl)
 
         by : (o : Option Link) → link_at p.intf p.cport here ≡ o → law.says here
@@ -153,10 +146,10 @@ module _ (x : Notice) (before : Host) (law : TurnLaw (at_notice x before)) where
         by (Some l) f = turned (at_notice x before) law p.intf p.cport state.Open (Some l) here _ f
             (p.step, inl (answered, at, refl)) asks-version
     done steps.AskVersion payload at =
-        goes steps.AskVersion steps.AskSize here at refl refl (λ s. refl) (as_answered refl)
+        goes steps.AskSize here (ap step_behind at) refl (as_answered refl)
     done steps.AskSize payload at =
         let f = λ (x : Interface). record x { size = size_in (read_control_reply 0x03 payload) } in
-        goes-updated steps.AskSize steps.AskManifest f at refl refl refl
+        goes-updated steps.AskManifest f (ap step_behind at) refl
         (keeps-all f (λ x. refl) (λ x. refl) (λ x. refl) (λ x. refl))
     done steps.AskManifest payload at =
         by (length payload == size_known (interface_of p.intf here))
@@ -165,19 +158,16 @@ module _ (x : Notice) (before : Host) (law : TurnLaw (at_notice x before)) where
             (manifest_checked (check_answer payload) p payload here)
             (failed_turn (interface_fails p here)))
         by true = checked (check_answer payload) payload at
-        by false = interface-fails (at_notice x before) law p here (fail steps.AskManifest at refl)
+        by false = interface-fails (at_notice x before) law p here (fail (ap is_enumeration at))
     done steps.CreateConnection payload at =
-        goes steps.CreateConnection steps.TellConnected here at refl refl no-enumeration
-        (as_answered refl)
+        goes steps.TellConnected here (ap step_behind at) refl (as_answered refl)
     done steps.TellConnected payload at =
         turned-last (at_notice x before) law p.intf p.cport state.Open here
         (p.step, inr (answered, at, refl))
     done steps.TellDisconnecting payload at =
-        goes steps.TellDisconnecting steps.TellDisconnected here at refl refl no-enumeration
-        (as_answered refl)
+        goes steps.TellDisconnected here (ap step_behind at) refl (as_answered refl)
     done steps.TellDisconnected payload at =
-        goes steps.TellDisconnected steps.DestroyConnection here at refl refl no-enumeration
-        (as_answered refl)
+        goes steps.DestroyConnection here (ap step_behind at) refl (as_answered refl)
     done steps.DestroyConnection payload at = by (link_at p.intf p.cport here) refl
       where
         gone : Host

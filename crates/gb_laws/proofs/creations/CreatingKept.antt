@@ -3,7 +3,6 @@ use Rattle.std.proofs.Common.{Bool, None, Option, Some, ap, arith, cond, false, 
 use Rattle.std.proofs.Common.{subst, sym, true, ℕ, ⊎_elim, [], ◌++◌, ◌∙◌, ◌∷◌, ◌≡◌}
 use Rattle.gb_base.specs.declared.end.Side.TheVariants as side
 use Rattle.gb_base.specs.declared.interface.Link.{Link}
-use Rattle.gb_base.specs.declared.steps.SequenceStep.{SequenceStep}
 use Rattle.gb_machine.specs.Host.{Host, is_link, link_at, with_given, with_link}
 use Rattle.gb_machine.specs.{Bus.Bus, Bus.next_number, Failures.unsent, HostActs.made_for}
 use Rattle.gb_machine.specs.{HostActs.with_awaited, HostServing.host_serves}
@@ -13,6 +12,7 @@ use Rattle.gb_machine.specs.{Sending.requested, SequenceSteps.is_for_connection,
 use Rattle.gb_machine.specs.{Turns.Asking, Waits.awaits, Wiring.next_connection}
 use Rattle.gb_invariants.proofs.{Awaiting.none-some, Awaiting.not-both, Found.in-first}
 use Rattle.gb_invariants.proofs.{Lists.in-behind, Lists.in-pushed, Selves.far-no-ap}
+use Rattle.gb_laws.proofs.links.LinkDue.{making-creates}
 use Rattle.gb_laws.proofs.creations.Creating.{create-reserved, creates_one, made-creates}
 use Rattle.gb_laws.proofs.creations.CreatingFacts.{AreReady, Came, CreatesFit, creates-came}
 use Rattle.gb_laws.proofs.creations.CreatingFacts.{creates-sent}
@@ -20,7 +20,7 @@ use Rattle.gb_laws.proofs.creations.CreatingFacts.{orderly-ready}
 use Rattle.gb_laws.proofs.links.LinkActs.{ServedHost, as_before, awaited-host, host-served}
 use Rattle.gb_laws.proofs.links.LinkActs.{with_images, with_more}
 use Rattle.gb_laws.proofs.links.LinkSources.{LinksFrom, from-turn, from-unsent}
-use Rattle.gb_laws.proofs.links.Links.{ArePending, IsFree, IsMaking, SameLink, connection, control}
+use Rattle.gb_laws.proofs.links.Links.{ArePending, IsFree, SameLink}
 use Rattle.gb_laws.proofs.points.Points.{Change, IsAskedBy, IsAsking, IsFarAsking, IsPlain}
 use Rattle.gb_laws.proofs.points.Points.{acts_asked}
 use Rattle.gb_laws.proofs.points.Points.{acts_failed, acts_left, acts_made, acts_shut, acts_told}
@@ -139,7 +139,7 @@ creates-kept m a (acts_made w q rest free is) links r f then h = record {
         ends = made-creates w q (subst (AreReady a.state.host a.state.past.made_for) is h.ready).0
             made.within made.cport_within;
       },
-      λ e. absurd (not-both (is_creating q.purpose.step) (making made.step) e),
+      λ e. absurd (not-both (is_creating q.purpose.step) (making-creates made.step) e),
     ),
     subst (AreReady (changed m a (acts_made w q rest free is)).state.host
         a.state.past.made_for) (sym (subst (ArePending a.state.host) is links.pending).0.1) tt,
@@ -151,10 +151,6 @@ creates-kept m a (acts_made w q rest free is) links r f then h = record {
 
     made : IsFree w q a.state.host
     made = (subst (ArePending a.state.host) is links.pending).0.0
-
-    making : {step : SequenceStep} → IsMaking w step → is_creating step ≡ true
-    making (control zero) = refl
-    making (connection other) = refl
 
     -- nothing is remembered of what is new
     fresh : (n k : ℕ) → IsIn (n, k) a.state.past.made_for → k ≡ next_connection a.state.bus → ⊥

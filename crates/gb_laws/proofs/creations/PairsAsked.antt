@@ -1,20 +1,20 @@
 -- What is known of remembered requests stays where a sequence comes to wait for one.
-use Rattle.std.proofs.Common.{Bool, List, None, Option, Some, ap, arith, cond, false, inl, inr}
+use Rattle.std.proofs.Common.{Bool, List, None, Option, Some, ap, arith, false, inl, inr}
 use Rattle.std.proofs.Common.{refl, subst, sym, true, ℕ, ⊎_elim, [], ◌++◌, ◌∙◌, ◌∷◌, ◌≡◌, ◌⊎◌}
 use Rattle.std.specs.List.{find}
-use Rattle.std.specs.Prelude.{option_map}
 use Rattle.gb_base.specs.declared.interface.Link.{Link}
 use Rattle.gb_base.specs.declared.steps.SequenceStep.{SequenceStep}
 use Rattle.gb_formats.specs.SvcRecords.{read_svc_ask}
 use Rattle.gb_machine.specs.Bus.{Bus, Request, request_of}
-use Rattle.gb_machine.specs.Host.{Host, is_link, link_at, with_interface, with_link}
+use Rattle.gb_machine.specs.Host.{Host, is_link, link_at}
 use Rattle.gb_machine.specs.SequenceSteps.{is_enumeration, is_for_connection, kind_of, payload_of}
 use Rattle.gb_machine.specs.{Members.IsIn, SvcQueues.is_for_link, SvcQueues.speaks_of_connection}
 use Rattle.gb_machine.specs.{Turns.Asking, Waits.awaits}
+use Rattle.gb_invariants.proofs.HostChanges.{waiting-by}
 use Rattle.gb_invariants.proofs.Awaiting.{none-some, not-both, same-some}
 use Rattle.gb_invariants.proofs.Lists.{in-behind, in-front, in-pushed}
-use Rattle.gb_invariants.proofs.Found.{find-changed, in-first}
-use Rattle.gb_laws.proofs.links.LinkLists.{found-at, found-its, one-link}
+use Rattle.gb_invariants.proofs.Found.{in-first}
+use Rattle.gb_laws.proofs.links.LinkLists.{found-at, found-its, found-waiting, one-link}
 use Rattle.gb_laws.proofs.links.Links.{HostFits, IsDue, IsDueBy, IsFormed}
 use Rattle.gb_laws.proofs.creations.Pairs.{IsAskedAs, IsSvcRequest, PairsFit, asks-svc, speaks-of}
 use Rattle.gb_laws.proofs.links.LinkActs.{awaits-fits}
@@ -41,17 +41,11 @@ module _ (b : Bus) (h : Host) (pairs : List (ℕ × ℕ)) (q : Asking) (n : ℕ)
   known : (l : Link) → IsIn l (awaits q.purpose n h).links → IsIn l h.links
       ⊎ ((x : Link) × IsIn x h.links × (link_at q.purpose.intf q.purpose.cport h ≡ Some x)
       × (l ≡ set x) × (is_enumeration q.purpose.step ≡ false))
-  known l = by (is_enumeration q.purpose.step) refl
-    where
-      by : (t : Bool) → is_enumeration q.purpose.step ≡ t
-          → IsIn l (cond t (with_interface q.purpose.intf
-          (λ x. record x { awaits = Some (n, q.purpose.step) }) h)
-          (with_link q.purpose.intf q.purpose.cport set h)).links → IsIn l h.links
-          ⊎ ((x : Link) × IsIn x h.links × (link_at q.purpose.intf q.purpose.cport h ≡ Some x)
-          × (l ≡ set x) × (is_enumeration q.purpose.step ≡ false))
-      by true e i = inl i
-      by false e i = ⊎_elim (λ o. inl o) (λ v. inr (v.0, v.1, v.2, v.3, e))
-          (in-first (is_link q.purpose.intf q.purpose.cport) set h.links l i)
+  known l = waiting-by (λ g. IsIn l g.links → IsIn l h.links
+      ⊎ ((x : Link) × IsIn x h.links × (link_at q.purpose.intf q.purpose.cport h ≡ Some x)
+      × (l ≡ set x) × (is_enumeration q.purpose.step ≡ false))) (Some (n, q.purpose.step)) q.purpose
+      h (λ e i. inl i) (λ e i. ⊎_elim (λ o. inl o) (λ v. inr (v.0, v.1, v.2, v.3, e))
+      (in-first (is_link q.purpose.intf q.purpose.cport) set h.links l i))
 
   -- the connection of the purpose, of which the request is remembered
   target-link : (l : Link) → link_at q.purpose.intf q.purpose.cport (awaits q.purpose n h) ≡ Some l
@@ -97,21 +91,11 @@ module _ (b : Bus) (h : Host) (pairs : List (ℕ × ℕ)) (q : Asking) (n : ℕ)
           last = λ k j. let less = asked.behind k l.connection j in
               omega (arith, less, ap (λ (y : ℕ × SequenceStep). y.0) same);
           own = λ s. absurd (none (sym e ∙ ap (λ (y : ℕ × SequenceStep). is_for_connection y.1) same
-              ∙ s) (set v.0) (found-then v.0 v.2 v.4));
+              ∙ s) (set v.0)
+              (found-waiting (Some (n, q.purpose.step)) q.purpose h v.0 v.4 v.2));
         }) (known l live);
     asks = λ p k g. absurd (none-some g);
   }
-    where
-      found-then : (x : Link) → link_at q.purpose.intf q.purpose.cport h ≡ Some x
-          → is_enumeration q.purpose.step ≡ false
-          → link_at q.purpose.intf q.purpose.cport (awaits q.purpose n h) ≡ Some (set x)
-      found-then x g s =
-          ap (λ u. find (is_link q.purpose.intf q.purpose.cport)
-          (cond u (with_interface q.purpose.intf
-          (λ y. record y { awaits = Some (n, q.purpose.step) }) h)
-          (with_link q.purpose.intf q.purpose.cport set h)).links) s
-          ∙ find-changed (is_link q.purpose.intf q.purpose.cport) set h.links (λ y. refl)
-          ∙ ap (option_map set) g
 
   -- it is remembered for that connection
   remembered : (l : Link) → link_at q.purpose.intf q.purpose.cport (awaits q.purpose n h) ≡ Some l
@@ -186,12 +170,7 @@ module _ (b : Bus) (h : Host) (pairs : List (ℕ × ℕ)) (q : Asking) (n : ℕ)
       number : (y x : Link) → link_at q.purpose.intf q.purpose.cport h ≡ Some x
           → is_enumeration q.purpose.step ≡ false → y ≡ set x → y.connection ≡ l.connection
       number y x g u e = ap (λ (z : Link). z.connection) (e ∙ same-some (set x) l
-          (sym (ap (λ t. find (is_link q.purpose.intf q.purpose.cport)
-          (cond t (with_interface q.purpose.intf
-          (λ z. record z { awaits = Some (n, q.purpose.step) }) h)
-          (with_link q.purpose.intf q.purpose.cport set h)).links) u
-          ∙ find-changed (is_link q.purpose.intf q.purpose.cport) set h.links (λ z. refl)
-          ∙ ap (option_map set) g) ∙ at))
+          (sym (found-waiting (Some (n, q.purpose.step)) q.purpose h x u g) ∙ at))
 
   pub pairs-asked : (t : Bool) (o : Option Link) → is_for_connection q.purpose.step ≡ t
       → link_at q.purpose.intf q.purpose.cport (awaits q.purpose n h) ≡ o

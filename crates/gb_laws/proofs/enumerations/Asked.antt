@@ -1,14 +1,13 @@
 -- What a turn of the application processor asks, and why. No interface waits for more than before.
-use Rattle.std.proofs.Common.{Some, ap, false, inl, inr, refl, subst, sym, true, ℕ, ⊎_elim, []}
+use Rattle.std.proofs.Common.{ap, false, inl, inr, refl, subst, sym, true, ℕ, ⊎_elim, []}
 use Rattle.std.proofs.Common.{◌++◌, ◌∙◌, ◌∷◌, ◌≡◌, ◌⊎◌}
-use Rattle.std.specs.Prelude.{IfSome}
 use Rattle.gb_base.specs.declared.interface.Interface.{Interface}
 use Rattle.gb_base.specs.declared.steps.{Purpose.Purpose, SequenceStep.SequenceStep}
 use Rattle.gb_base.specs.declared.entry.IntfStage.TheVariants as stage
 use Rattle.gb_base.specs.declared.steps.SequenceStep.TheVariants as steps
 use Rattle.gb_machine.specs.Host.{Host, intf_before, is_intf, new_interface, staged}
 use Rattle.gb_machine.specs.{Failures.unsent, Lists.holds_of}
-use Rattle.gb_machine.specs.{SequenceSteps.is_enumeration, Sequences.enumerated, Turns.Asking}
+use Rattle.gb_machine.specs.{Sequences.enumerated, Turns.Asking}
 use Rattle.gb_invariants.proofs.HostChanges.{Finds, HostChange, HostEnd, IsAnswered, IsAskedAt}
 use Rattle.gb_invariants.proofs.HostChanges.{IsLast, Occasion, TurnLaw, acts_by, at_notice}
 use Rattle.gb_invariants.proofs.HostChanges.{at_unsent, changes-ask, end_of, host_after}
@@ -94,19 +93,6 @@ power-behind : (s : SequenceStep) → holds_of is_power_step (step_behind s) ≡
     → is_power_step s ≡ true
 power-behind steps.CreateControl is = refl
 power-behind _ is = is
-
--- the step before one is of an enumeration where that is
-pub kind-behind : (s : SequenceStep)
-    → IfSome (step_behind s) (λ t. is_enumeration s ≡ is_enumeration t)
-kind-behind steps.AskManifest = tt
-kind-behind steps.TellConnected = tt
-kind-behind steps.DestroyConnection = tt
-kind-behind _ = refl
-
--- where a step follows a step
-pub same-kind : (s : SequenceStep) {t : SequenceStep} → step_behind s ≡ Some t
-    → is_enumeration s ≡ is_enumeration t
-same-kind s e = subst (λ o. IfSome o (λ t. is_enumeration s ≡ is_enumeration t)) e (kind-behind s)
 
 -- Of interface i a turn asks the supervisory controller for the start of an enumeration alone,
 -- unless such a step was answered.

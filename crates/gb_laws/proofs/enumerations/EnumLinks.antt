@@ -17,13 +17,14 @@ use Rattle.gb_machine.specs.{Failures.unsent, HostServing.host_serves, HostServi
 use Rattle.gb_machine.specs.{LineActions.spent, Lists.holds_of, Members.IsIn}
 use Rattle.gb_machine.specs.{Runs.Moment, SequenceSteps.is_enumeration}
 use Rattle.gb_machine.specs.{State.State, Waits.awaited, Waits.awaits, Wiring.next_connection}
+use Rattle.gb_invariants.proofs.HostChanges.{same-kind}
 use Rattle.gb_invariants.proofs.HostChanges.{HostChange, IsAskedAt, at_notice, to_close, to_connect}
 use Rattle.gb_invariants.proofs.HostChanges.{to_enumerate, to_go_on}
 use Rattle.gb_invariants.proofs.Lists.{found-in, in-pushed, in-without}
 use Rattle.gb_invariants.proofs.{Awaiting.not-both, Outcomes.is-same, Outcomes.same-number}
 use Rattle.gb_invariants.proofs.{OverTurns.over-turn}
 use Rattle.gb_invariants.proofs.HostChanges.{Notice, at_removal, turn_of}
-use Rattle.gb_laws.proofs.enumerations.Asked.{asked-why, change-asks, same-kind}
+use Rattle.gb_laws.proofs.enumerations.Asked.{asked-why, change-asks}
 use Rattle.gb_laws.proofs.enumerations.AskedWaits.{AsksIn, asks-behind, asks_in, no-asks, opens_in}
 use Rattle.gb_laws.proofs.enumerations.DoneStays.{KeepsDone, NoneRemoved, keeps-same, keeps-waiting}
 use Rattle.gb_laws.proofs.links.LinkActs.{ServedHost, as_before, awaited-host, host-served}
@@ -219,10 +220,10 @@ links-kept m absent i a (acts_made w q rest free is) links settled h = record {
     asked : (r : Asking) → AsksIn r (Act.Ask q ∷ rest) → AsksIn r a.pending
     asked r j = asks-kept m a (acts_made w q rest free is) tt r j
 
-    step : w.cport ≢ 0 → IsMaking w q.purpose.step → is_enumeration q.purpose.step ≡ false
+    step : w.cport ≢ 0 → IsMaking w.cport q.purpose.step → is_enumeration q.purpose.step ≡ false
     step other s = by q.purpose.step s
       where
-        by : (t : _) → IsMaking w t → is_enumeration t ≡ false
+        by : (t : _) → IsMaking w.cport t → is_enumeration t ≡ false
         by _ (control zero) = absurd (other zero)
         by _ (connection k) = refl
 

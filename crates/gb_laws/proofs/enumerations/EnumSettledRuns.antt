@@ -1,17 +1,18 @@
 -- Where the enumeration of an interface waits for its module, or is done, none of its requests
 -- waits toward the supervisory controller, in each state of a run.
-use Rattle.std.proofs.Common.{Bool, List, Some, ap, cond, false, inl, map, refl, subst, sym, true}
+use Rattle.std.proofs.Common.{List, Some, ap, inl, map, refl, subst, sym}
 use Rattle.std.proofs.Common.{ℕ, ⊎_elim, [], ◌++◌, ◌∙◌, ◌∷◌, ◌≡◌}
 use Rattle.gb_base.specs.declared.end.Side.TheVariants as side
 use Rattle.gb_base.specs.declared.entry.Entry.{Entry}
 use Rattle.gb_base.specs.declared.interface.Interface.{Interface}
 use Rattle.gb_base.specs.declared.steps.SequenceStep.{SequenceStep}
-use Rattle.gb_machine.specs.Host.{Host, is_intf, with_interface, with_link}
+use Rattle.gb_machine.specs.Host.{Host, is_intf, with_interface}
 use Rattle.gb_machine.specs.Runs.{IsMoment, Moment, after, told_at}
 use Rattle.gb_machine.specs.SvcQueues.{is_enumeration_request, svc_items, svc_requests}
 use Rattle.gb_machine.specs.{Bus.Bus, HostActs.host_draft, HostActs.with_awaited}
 use Rattle.gb_machine.specs.{HostServing.host_serves, LawsSvc.HasNoEnumeration, Members.IsIn}
-use Rattle.gb_machine.specs.{Sending.Draft, Sending.sent, SequenceSteps.is_enumeration, State.State}
+use Rattle.gb_machine.specs.{Sending.Draft, Sending.sent, State.State}
+use Rattle.gb_invariants.proofs.HostChanges.{interface_awaits, waiting-by}
 use Rattle.gb_invariants.proofs.{Lists.found-in, Lists.in-at_first}
 use Rattle.gb_invariants.proofs.{Outcomes.same-number}
 use Rattle.gb_laws.proofs.enumerations.AskedWaits.{AsksIn, asks_in, no-asks, same-waits}
@@ -80,13 +81,10 @@ settled-kept m absent i a (acts_asked q n rest is) basis links there quiet h = r
     onto : IsNone i a.state.bus → IsNone i (with_awaited q.purpose n a.state).bus
     onto k = subst (IsNone i) (sym (awaited-rest q.purpose n).bus) k
 
-    back-by : (t : Bool) → IsDone i (cond t (with_interface q.purpose.intf
-        (λ y. record y { awaits = Some (n, q.purpose.step) }) a.state.host)
-        (with_link q.purpose.intf q.purpose.cport
-        (λ l. record l { awaits = Some (n, q.purpose.step) }) a.state.host)).interfaces
+    back-at : IsDone i (with_interface q.purpose.intf
+        (interface_awaits (Some (n, q.purpose.step))) a.state.host).interfaces
         → IsDone i a.state.host.interfaces
-    back-by false d = d
-    back-by true d = ⊎_elim
+    back-at d = ⊎_elim
         (λ o. record { interface = d.interface; known = o; intf = d.intf; done = d.done })
         (λ v. record {
           interface = v.0;
@@ -94,12 +92,12 @@ settled-kept m absent i a (acts_asked q n rest is) basis links there quiet h = r
           intf = ap (λ (y : Interface). y.intf) (sym v.3) ∙ d.intf;
           done = ap (λ (y : Interface). y.stage) (sym v.3) ∙ d.done;
         }) (in-at_first (is_intf q.purpose.intf)
-        (λ (y : Interface). record y { awaits = Some (n, q.purpose.step) }) a.state.host.interfaces
-        d.interface d.known)
+        (interface_awaits (Some (n, q.purpose.step))) a.state.host.interfaces d.interface d.known)
 
     back : IsDone i (with_awaited q.purpose n a.state).host.interfaces
         → IsDone i a.state.host.interfaces
-    back d = back-by (is_enumeration q.purpose.step)
+    back d = waiting-by (λ g. IsDone i g.interfaces → IsDone i a.state.host.interfaces)
+        (Some (n, q.purpose.step)) q.purpose a.state.host (λ e. back-at) (λ e k. k)
         (subst (λ (g : Host). IsDone i g.interfaces) (awaited-host q.purpose n a.state) d)
 
     then : (step : SequenceStep) → May i a.state.host.interfaces a.state.bus step

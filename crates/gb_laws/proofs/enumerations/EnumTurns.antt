@@ -9,6 +9,7 @@ use Rattle.gb_machine.specs.Turns.{Asking, Turn}
 use Rattle.gb_machine.specs.{Host.Host, Host.is_intf}
 use Rattle.gb_machine.specs.{SequenceSteps.is_enumeration, Sequences.enumerated}
 use Rattle.gb_machine.specs.{Waits.awaits_nothing}
+use Rattle.gb_invariants.proofs.HostChanges.{same-kind}
 use Rattle.gb_invariants.proofs.HostChanges.{HostEnd, IsAnswered, IsAskedAt, IsLast, at_notice}
 use Rattle.gb_invariants.proofs.HostChanges.{end_of, to_close, to_connect}
 use Rattle.gb_invariants.proofs.HostChanges.{to_enumerate, to_go_on}
@@ -16,7 +17,7 @@ use Rattle.gb_invariants.proofs.{Awaiting.not-both, Lists.in-at_first, Outcomes.
 use Rattle.gb_invariants.proofs.{OverTurns.over-turn}
 use Rattle.gb_invariants.proofs.HostChanges.{Notice, turn_of}
 use Rattle.gb_invariants.proofs.HostChanges.{at_insertion}
-use Rattle.gb_laws.proofs.enumerations.Asked.{asked-why, change-asks, same-kind}
+use Rattle.gb_laws.proofs.enumerations.Asked.{asked-why, change-asks}
 use Rattle.gb_laws.proofs.enumerations.AskedWaits.{AsksIn, asks-behind, no-asks}
 use Rattle.gb_laws.proofs.{enumerations.EnumDone.IsDone, enumerations.EnumDone.change-done}
 use Rattle.gb_laws.proofs.{links.LinkHosts.resting-changed}

@@ -11,11 +11,11 @@ use Rattle.gb_formats.specs.{Records.PayloadFault, SvcRecords.SvcAsk}
 use Rattle.gb_formats.specs.{SvcRecords.read_svc_ask_of_svc, UartDevice.credits_added}
 use Rattle.gb_formats.specs.{UartRecords.UartAsk, UartRecords.read_uart_ask_of_module}
 use Rattle.gb_machine.specs.Failures.{unsent}
-use Rattle.gb_machine.specs.Host.{Host, is_intf, link_at, link_of, with_interface}
+use Rattle.gb_machine.specs.Host.{Host, is_intf, link_at, link_of}
 use Rattle.gb_machine.specs.Host.{with_link}
 use Rattle.gb_machine.specs.HostServing.{HostServed, credited, host_serves, interrupted}
 use Rattle.gb_machine.specs.HostServing.{notified_by, served_on, uart_notified_by, with_credits}
-use Rattle.gb_machine.specs.Turns.{Act, Asking, Making, failed_turn}
+use Rattle.gb_machine.specs.Turns.{Act, Asking, failed_turn}
 use Rattle.gb_machine.specs.{Bus.Bus, Bus.Connection, HostActs.made_for, HostActs.with_awaited}
 use Rattle.gb_machine.specs.{Members.IsIn, SequenceSteps.is_enumeration}
 use Rattle.gb_machine.specs.{SequenceSteps.is_for_connection, State.State, Waits.awaits}
@@ -25,11 +25,12 @@ use Rattle.gb_invariants.proofs.{Lists.in-at_first}
 use Rattle.gb_invariants.proofs.{Outcomes.same-number}
 use Rattle.gb_laws.proofs.links.LinkHosts.{Stay, awaits-link, credits-link, host-images}
 use Rattle.gb_laws.proofs.links.LinkHosts.{host-interface, host-link, stay-changed, stay-same}
+use Rattle.gb_laws.proofs.links.LinkDue.{making-creates}
 use Rattle.gb_laws.proofs.links.LinkTurns.{unsent-fits}
 use Rattle.gb_laws.proofs.links.LinkFits.{TurnFits}
 use Rattle.gb_laws.proofs.links.Links.{ArePending}
 use Rattle.gb_laws.proofs.links.Links.{HasNoControl, HostFits, IsAtStep, IsDue, IsDueBy, IsFollowed}
-use Rattle.gb_laws.proofs.links.Links.{IsKnown, IsMaking, SameLink, connection, control}
+use Rattle.gb_laws.proofs.links.Links.{IsKnown, SameLink}
 use Rattle.gb_laws.proofs.links.Links.{is_early, leaves, leaving, linked, stays, supervisory}
 use Rattle.gb_laws.proofs.points.LoaderFacts.{same-plugs}
 use Rattle.gb_laws.proofs.points.Points.{IsAsking, SamePlugs, asking, opening}
@@ -120,23 +121,14 @@ pub awaited-interface : (p : Purpose) (n : ℕ) (s : State) (x : Interface) (w :
     → IsIn x (with_awaited p n s).host.interfaces → x.awaits ≡ Some w
     → IsIn x s.host.interfaces
     ⊎ ((p.intf ≡ x.intf) × ((n, p.step) ≡ w) × (is_enumeration p.step ≡ true))
-awaited-interface p n s x w i e =
-    by (is_enumeration p.step) refl
-    (subst (λ (h : Host). IsIn x h.interfaces) (awaited-host p n s) i)
-  where
-    by : (t : Bool) → is_enumeration p.step ≡ t
-        → IsIn x (cond t
-        (with_interface p.intf (λ y. record y { awaits = Some (n, p.step) }) s.host)
-        (with_link p.intf p.cport (λ l. record l { awaits = Some (n, p.step) }) s.host)).interfaces
-        → IsIn x s.host.interfaces
-        ⊎ ((p.intf ≡ x.intf) × ((n, p.step) ≡ w) × (is_enumeration p.step ≡ true))
-    by false t j = inl j
-    by true t j = ⊎_elim inl (λ u. inr (
+awaited-interface p n s x w i e = waiting-by (λ h. IsIn x h.interfaces → IsIn x s.host.interfaces
+    ⊎ ((p.intf ≡ x.intf) × ((n, p.step) ≡ w) × (is_enumeration p.step ≡ true)))
+    (Some (n, p.step)) p s.host (λ t j. ⊎_elim inl (λ u. inr (
       sym (same-number u.0.intf p.intf u.2) ∙ sym (ap (λ (y : Interface). y.intf) u.3),
       same-some (n, p.step) w (sym (ap (λ (y : Interface). y.awaits) u.3) ∙ e),
       t,
-    )) (in-at_first (is_intf p.intf) (λ (y : Interface). record y { awaits = Some (n, p.step) })
-        s.host.interfaces x j)
+    )) (in-at_first (is_intf p.intf) (interface_awaits (Some (n, p.step))) s.host.interfaces x j))
+    (λ t j. inl j) (subst (λ (h : Host). IsIn x h.interfaces) (awaited-host p n s) i)
 
 pub linked-asked : (q : Asking) (n : ℕ) (rest : List Act) (s : State)
     → Linked s.bus s.host (Act.Ask q ∷ rest)
@@ -157,11 +149,6 @@ none-leaves k [] i = i
 none-leaves k (e ∷ es) (inl f) = absurd cc
 none-leaves k (e ∷ es) (inr i) = none-leaves k es i
 
--- a step with which a connection is made asks for a new one
-making-creates : (w : Making) (step : SequenceStep) → IsMaking w step → is_creating step ≡ true
-making-creates w _ (control zero_cport) = refl
-making-creates w _ (connection other) = refl
-
 -- what fails keeps the facts, and connections stay
 pub unsent-stays : {b : Bus} (q : Asking) {rest acts : List Act} {h : Host} → IsAsking q acts rest
     → ArePending h acts → HostFits b h
@@ -175,7 +162,7 @@ unsent-stays {b} q {rest} {acts} {h} why pending fits =
         → IsDue q.purpose.step q.purpose h
     due (asking is) plain = (subst (ArePending h) is pending).0.0
     due (opening v is) plain = absurd (not-both (is_creating q.purpose.step)
-        (making-creates v q.purpose.step (subst (ArePending h) is pending).0.0.step) plain)
+        (making-creates (subst (ArePending h) is pending).0.0.step) plain)
 
     by : (l : Link) → IsFollowed l (unsent q.purpose h).host.links
         (map Act.Tell (unsent q.purpose h).told) → (k : Link)

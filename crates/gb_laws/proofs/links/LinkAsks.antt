@@ -9,11 +9,11 @@ use Rattle.gb_base.specs.declared.steps.SequenceStep.TheVariants as steps
 use Rattle.gb_machine.specs.Host.{Host, control_of, free_cport, link_at}
 use Rattle.gb_machine.specs.SequenceSteps.{asks_control}
 use Rattle.gb_machine.specs.Sequences.{ap_in, asking, target, way_of}
-use Rattle.gb_machine.specs.{Bus.Bus, Turns.Making}
+use Rattle.gb_machine.specs.{Bus.Bus}
 use Rattle.gb_invariants.proofs.HostChanges.{HostEnd, end_of, is_creating}
 use Rattle.gb_invariants.proofs.{Awaiting.not-both, Awaiting.same-some, Found.first_free-is}
 use Rattle.gb_invariants.proofs.{Found.none-any, Outcomes.is-same}
-use Rattle.gb_laws.proofs.links.LinkDue.{IsMakeable, MakesAt}
+use Rattle.gb_laws.proofs.links.LinkDue.{IsMakeable, making-asks}
 use Rattle.gb_laws.proofs.links.LinkFits.{TurnFits}
 use Rattle.gb_laws.proofs.links.LinkHosts.{come-same, same-link}
 use Rattle.gb_laws.proofs.links.LinkLists.{on-control}
@@ -70,7 +70,7 @@ fits-making a protocol p h may free fits =
       pending = (
         (
           record {
-            step = making p.step may.step;
+            step = may.step;
             intf = refl;
             cport = refl;
             from_one = f.1;
@@ -81,8 +81,11 @@ fits-making a protocol p h may free fits =
             at = may.none;
             idle = may.idle;
             present = may.present;
-            formed = formed 1 a p h (λ e. (subst (λ s. MakesAt s p.cport) e may.step, may.within))
-                (λ e. refl) (λ e. absurd (plain p.step may.step e));
+            formed = formed 1 a p h (λ e. (
+              other steps.CreateConnection (subst (IsMaking p.cport) e may.step) refl,
+              may.within,
+            )) (λ e. refl)
+                (λ e. absurd (not-both (asks_control p.step) e (making-asks may.step)));
           },
           refl,
         ),
@@ -92,15 +95,6 @@ fits-making a protocol p h may free fits =
       come = come-same h.links;
     }
   where
-    w : Making
-    w = record { ap = a; intf = p.intf; cport = p.cport; protocol = protocol }
-
-    plain : (s : SequenceStep) → MakesAt s p.cport → asks_control s ≡ true → ⊥
-    plain steps.CreateControl at e = absurd cc
-    plain steps.CreateConnection at e = absurd cc
-    plain _ at e = at
-
-    making : (s : SequenceStep) → MakesAt s p.cport → IsMaking w s
-    making steps.CreateControl at = control at
-    making steps.CreateConnection at = connection at
-    making _ at = absurd at
+    other : (s : SequenceStep) → IsMaking p.cport s → s ≡ steps.CreateConnection → p.cport ≢ 0
+    other _ (control zero_cport) e = absurd cc
+    other _ (connection apart) e = apart

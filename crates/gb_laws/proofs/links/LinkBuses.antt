@@ -17,6 +17,7 @@ use Rattle.gb_invariants.proofs.Lists.{each-from, found-in, in-at_first, in-fron
 use Rattle.gb_invariants.proofs.Lists.{in-without, two-pushed}
 use Rattle.gb_invariants.proofs.{Awaiting.none-some, Awaiting.not-both, Outcomes.is-same}
 use Rattle.gb_invariants.proofs.{Outcomes.same-number}
+use Rattle.gb_laws.proofs.links.LinkDue.{making-asks}
 use Rattle.gb_laws.proofs.links.Links.{ArePending, DrainsPlain, HostFits, IsDue, IsFree, IsKnown}
 use Rattle.gb_laws.proofs.links.Links.{IsLinkBefore, IsMaking, IsNumbered, IsPresent, IsWaiting}
 use Rattle.gb_laws.proofs.links.Links.{LinksFit}
@@ -237,7 +238,7 @@ linked-opened {b} {h} w q rest f = record {
       due q.purpose.step free.step,
       f.pending.0.1,
       free.formed,
-      λ e. absurd (own q.purpose.step free.step e),
+      λ e. absurd (not-both (asks_control q.purpose.step) e (making-asks free.step)),
     ),
     subst (ArePending (with_new_link (next_connection b) w.ap w.intf w.cport w.protocol h))
         (sym f.pending.0.1) tt,
@@ -261,16 +262,12 @@ linked-opened {b} {h} w q rest f = record {
     free : IsFree w q h
     free = f.pending.0.0
 
-    own : (step : SequenceStep) → IsMaking w step → asks_control step ≡ true → ⊥
-    own step (control zero_cport) e = absurd cc
-    own step (connection other) e = absurd cc
-
     last : (ls : List Link) → IsIn (new_link (next_connection b) w)
         (ls ++ new_link (next_connection b) w ∷ [])
     last [] = inl refl
     last (l ∷ ls) = inr (last ls)
 
-    due : (step : SequenceStep) → IsMaking w step
+    due : (step : SequenceStep) → IsMaking w.cport step
         → IsDue step q.purpose (with_new_link (next_connection b) w.ap w.intf w.cport w.protocol h)
     due step (control zero_cport) = record {
       cport = f.pending.0.0.cport ∙ zero_cport;

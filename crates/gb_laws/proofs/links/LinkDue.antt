@@ -16,7 +16,7 @@ use Rattle.gb_machine.specs.Host.{with_new_interface}
 use Rattle.gb_machine.specs.HostRefusals.{connect_conditions, disconnect_conditions}
 use Rattle.gb_machine.specs.HostRefusals.{drain_conditions, is_closing, is_unopened}
 use Rattle.gb_machine.specs.HostRefusals.{link_conditions}
-use Rattle.gb_machine.specs.SequenceSteps.{at_step, is_enumeration, purpose}
+use Rattle.gb_machine.specs.SequenceSteps.{asks_control, at_step, is_enumeration, purpose}
 use Rattle.gb_machine.specs.{Bus.Bus, Members.IsIn, Sequences.opened}
 use Rattle.gb_machine.specs.Waits.{awaited, awaits_nothing}
 use Rattle.gb_invariants.proofs.HostChanges.{AsksAt, Closes, Completes, Ends, FailsFor, IsAskedAt}
@@ -35,7 +35,7 @@ use Rattle.gb_laws.proofs.links.LinkHosts.{next-interface}
 use Rattle.gb_laws.proofs.links.LinkLists.{find-changed, found-its, found-there, link-is}
 use Rattle.gb_laws.proofs.links.LinkLists.{ordered-in}
 use Rattle.gb_laws.proofs.links.Links.{HasNoControl, HostFits, IsAtStep, IsDue, IsDueBy, IsPresent}
-use Rattle.gb_laws.proofs.links.Links.{IsResting, IsWaiting}
+use Rattle.gb_laws.proofs.links.Links.{IsMaking, IsResting, IsWaiting, connection, control}
 use Rattle.gb_laws.proofs.{links.Controls.control-none, links.Waited.waits-for}
 
 -- ---- what is noticed
@@ -253,15 +253,18 @@ asked-due {b} {x} {before} {p} {h} fits allowed why = by why
 
 -- ---- a connection is made
 
--- a step makes the connection of a CPort
-abbrev pub MakesAt : SequenceStep → ℕ → Type 0
-MakesAt steps.CreateControl c = c ≡ 0
-MakesAt steps.CreateConnection c = c ≢ 0
-MakesAt _ c = ⊥
+-- a step with which one is made asks the supervisory controller for a new one
+pub making-creates : {c : ℕ} {step : SequenceStep} → IsMaking c step → is_creating step ≡ true
+making-creates (control zero_cport) = refl
+making-creates (connection other) = refl
+
+pub making-asks : {c : ℕ} {step : SequenceStep} → IsMaking c step → asks_control step ≡ false
+making-asks (control zero_cport) = refl
+making-asks (connection other) = refl
 
 -- The connection of a purpose may be made.
 pub record IsMakeable (p : Purpose) (h : Host) : Type 0 where
-  pub step : MakesAt p.step p.cport
+  pub step : IsMaking p.cport p.step
   pub within : p.cport ≤ 4095
   pub none : (l : Link) → IsIn l h.links → is_link p.intf p.cport l ≡ false
   pub idle : p.cport ≡ 0 → IsResting p.intf h.interfaces
@@ -270,7 +273,7 @@ pub record IsMakeable (p : Purpose) (h : Host) : Type 0 where
 connect-makes : (i c : ℕ) (h : Host) → MayConnect i c h → c ≤ 4095
     → IsMakeable (purpose i c steps.CreateConnection) h
 connect-makes i c h may low = record {
-  step = may.other;
+  step = connection may.other;
   within = low;
   none = λ l j. find-none (is_link i c) h.links l may.none j;
   idle = λ z. absurd (may.other z);
@@ -289,7 +292,7 @@ route-behind _ = λ e. absurd cc
 control-makes : (last : Purpose) (h : Host) → IsDue steps.CreateRoute last h
     → IsMakeable (at_step steps.CreateControl last) h
 control-makes last h due = record {
-  step = due.cport;
+  step = control due.cport;
   within = let z = due.cport in omega (arith, z);
   none = λ l i. ap (λ c. is_link last.intf c l) due.cport ∙ due.none refl l i;
   idle = λ e. due.idle;

@@ -1,12 +1,11 @@
 -- What is known once a sequence waits no more for a request that ended.
 use Rattle.std.proofs.Common.{None, Some, ap, refl, subst, sym, true, ℕ, []}
 use Rattle.std.proofs.Common.{◌∙◌, ◌≡◌, ◌≢◌}
-use Rattle.std.specs.List.{find}
 use Rattle.std.specs.Prelude.{option_map}
 use Rattle.gb_base.specs.declared.interface.{Interface.Interface, Link.Link}
 use Rattle.gb_base.specs.declared.steps.{Purpose.Purpose}
-use Rattle.gb_machine.specs.Host.{Host, is_link, with_interface, with_link}
-use Rattle.gb_machine.specs.{Bus.Bus, Lists.at_first, Members.IsIn, SequenceSteps.is_enumeration}
+use Rattle.gb_machine.specs.Host.{Host, is_link, link_at, with_interface, with_link}
+use Rattle.gb_machine.specs.{Bus.Bus, Members.IsIn, SequenceSteps.is_enumeration}
 use Rattle.gb_machine.specs.{Turns.turn, Waits.awaited, Waits.awaits_nothing}
 use Rattle.gb_invariants.proofs.HostChanges.{interface_awaits, link_awaits}
 use Rattle.gb_invariants.proofs.{Awaiting.none-some, Awaiting.not-both, Awaiting.same-some}
@@ -48,7 +47,7 @@ resumed-link : (b : Bus) (p : Purpose) (h : Host) → HostFits b h → (l : Link
 resumed-link b p h fits l i intf cport other at = record {
   fits = fits-link p.intf p.cport (link_awaits None) [] (awaits-link None)
       (λ k f. record {
-        waiting = λ v. waits-not ((link_awaits None) k) refl;
+        waiting = λ v. waits-not (link_awaits None k) refl;
         deaf = λ d. record { cport = d.cport; takes = d.takes };
         draining = λ d. d;
       }) fits;
@@ -60,11 +59,13 @@ resumed-link b p h fits l i intf cport other at = record {
       });
 }
   where
-    is-it : (y : Link) → find (is_link p.intf p.cport)
-        (at_first (is_link p.intf p.cport) (link_awaits None) h.links) ≡ Some y → (link_awaits None) l ≡ y
-    is-it y f = same-some ((link_awaits None) l) y
+    is-it : (y : Link)
+        → link_at p.intf p.cport (with_link p.intf p.cport (link_awaits None) h) ≡ Some y
+        → link_awaits None l ≡ y
+    is-it y f = same-some (link_awaits None l) y
         (sym (find-changed (is_link p.intf p.cport) (link_awaits None) h.links (λ x. refl)
-        ∙ ap (option_map (link_awaits None)) (found-there h.links l fits.links.rise i intf cport)) ∙ f)
+        ∙ ap (option_map (link_awaits None))
+        (found-there h.links l fits.links.rise i intf cport)) ∙ f)
 
 pub resumed : {b : Bus} (n : ℕ) (p : Purpose) (h : Host) → HostFits b h → WaitsFor h n p
     → Resumed b p h (awaits_nothing p h)

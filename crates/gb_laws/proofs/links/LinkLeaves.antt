@@ -1,26 +1,28 @@
 -- Which connections a turn of the application processor gives up, and why.
 use Rattle.std.proofs.Common.{List, None, Some, ap, inl, inr, refl}
 use Rattle.std.proofs.Common.{subst, sym, ℕ, ⊎_elim, [], ◌∙◌, ◌∷◌, ◌≡◌}
-use Rattle.std.specs.{Prelude.option_map, Prelude.◌==◌}
+use Rattle.std.specs.{Prelude.◌==◌}
 use Rattle.gb_base.specs.declared.host_event.HostEvent.TheVariants as host_event
 use Rattle.gb_base.specs.declared.interface.Link.{Link}
 use Rattle.gb_base.specs.declared.steps.{Purpose.Purpose}
 use Rattle.gb_base.specs.declared.outcome.Outcome.TheVariants as outcome
 use Rattle.gb_base.specs.declared.steps.SequenceStep.TheVariants as steps
-use Rattle.gb_machine.specs.Host.{Host, is_link, link_at}
+use Rattle.gb_machine.specs.Host.{Host, link_at}
 use Rattle.gb_machine.specs.HostTurns.{host_inserted, host_removed, host_turn, links_left, links_of}
 use Rattle.gb_machine.specs.Waits.{awaits_nothing}
 use Rattle.gb_machine.specs.{Bus.Bus, Failures.told_of, Members.IsIn}
 use Rattle.gb_machine.specs.{SequenceSteps.is_enumeration, Turns.Act}
+use Rattle.gb_invariants.proofs.HostChanges.{link_awaits}
 use Rattle.gb_invariants.proofs.HostChanges.{Finds, HostChange, HostEnd, IsAnswered, IsFor, acts_by}
 use Rattle.gb_invariants.proofs.HostChanges.{at_notice, end_of}
-use Rattle.gb_invariants.proofs.{Awaiting.not-both, Awaiting.same-some, Found.find-changed}
+use Rattle.gb_invariants.proofs.{Awaiting.not-both, Awaiting.same-some}
 use Rattle.gb_invariants.proofs.{Lists.in-append, Lists.in-filter, Outcomes.same-number}
 use Rattle.gb_invariants.proofs.{OverTurns.over-turn}
 use Rattle.gb_invariants.proofs.HostChanges.{Notice, at_removal, turn_of}
 use Rattle.gb_invariants.proofs.HostChanges.{at_event}
 use Rattle.gb_invariants.proofs.HostChanges.{at_insertion}
-use Rattle.gb_laws.proofs.{links.LinkActs.none-leaves, links.LinkLists.found-there}
+use Rattle.gb_laws.proofs.links.LinkLists.{found-there, found-waiting}
+use Rattle.gb_laws.proofs.{links.LinkActs.none-leaves}
 use Rattle.gb_laws.proofs.{links.Links.HostFits}
 use Rattle.gb_laws.proofs.links.Waited.{WaitsFor, connecting, enumerating, waits-for}
 
@@ -33,9 +35,6 @@ pub data WhyLeft (h : Host) (e : Notice) (k : ℕ) : Type 0 where
       → e ≡ at_event (host_event.Ended n (outcome.Answered result payload)) → IsIn l h.links
       → l.awaits ≡ Some (n, steps.DestroyConnection) → l.connection ≡ k → WhyLeft h e k
 
-abbrev idle : Link → Link
-idle l = record l { awaits = None }
-
 -- the connection that a close waits on is the one that is found behind its last answer
 why-closed : (b : Bus) (h : Host) (e : Notice) (p : Purpose) (l : Link) → HostFits b h
     → IsAnswered e h p → p.step ≡ steps.DestroyConnection
@@ -46,13 +45,12 @@ why-closed b h e p l fits r last found = by (waits-for r.number h p r.awaited)
     by (enumerating x i intf cport awaits) = absurd (not-both (is_enumeration p.step)
         (fits.interfaces x i (r.number, p.step) awaits).0 (ap is_enumeration last))
     by (connecting k i intf cport awaits) =
-        let then : link_at p.intf p.cport (awaits_nothing p h) ≡ Some (idle k) =
-        ap (λ s. link_at p.intf p.cport (awaits_nothing (record p { step = s }) h)) last
-        ∙ find-changed (is_link p.intf p.cport) idle h.links (λ x. refl)
-        ∙ ap (option_map idle) (found-there h.links k fits.links.rise i intf cport) in
+        let then : link_at p.intf p.cport (awaits_nothing p h) ≡ Some (link_awaits None k) =
+        found-waiting None p h k (ap is_enumeration last)
+        (found-there h.links k fits.links.rise i intf cport) in
         closed r.number r.result r.payload k r.is i
         (awaits ∙ ap (λ s. Some (r.number, s)) last)
-        (ap (λ (y : Link). y.connection) (same-some (idle k) l (sym then ∙ found)))
+        (ap (λ (y : Link). y.connection) (same-some (link_awaits None k) l (sym then ∙ found)))
 
 -- ---- changes
 

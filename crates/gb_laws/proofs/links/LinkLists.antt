@@ -5,10 +5,12 @@ use Rattle.std.proofs.lemmas.Bool.Decides.{nat_tests}
 use Rattle.std.specs.List.{find}
 use Rattle.std.specs.Prelude.{option_map, ◌==◌}
 use Rattle.gb_base.specs.declared.interface.{Interface.Interface, Link.Link}
-use Rattle.gb_base.specs.declared.steps.Purpose.{Purpose}
+use Rattle.gb_base.specs.declared.steps.{Purpose.Purpose, SequenceStep.SequenceStep}
 use Rattle.gb_machine.specs.Host.{Host, control_of, is_intf, is_link, link_at}
 use Rattle.gb_machine.specs.{Lists.at_first, Lists.in_order, Members.EachTwo, Members.IsIn}
 use Rattle.gb_machine.specs.{SequenceSteps.asks_control, Sequences.way_of}
+use Rattle.gb_machine.specs.{SequenceSteps.is_enumeration, Waits.waiting}
+use Rattle.gb_invariants.proofs.HostChanges.{link_awaits, waiting-by}
 use Rattle.gb_invariants.proofs.Lists.{each-from, each-in, found-in}
 use Rattle.gb_invariants.proofs.Outcomes.{both-true, is-same, same-number}
 use Rattle.gb_invariants.proofs.{Awaiting.not-both, Awaiting.same-some, Found.in-ordered}
@@ -82,6 +84,16 @@ pub found-there : (ls : List Link) (l : Link) {i c : ℕ} → EachTwo IsLinkBefo
     → l.intf ≡ i → l.cport ≡ c → find (is_link i c) ls ≡ Some l
 found-there ls l {i} rise known intf cport = sym (ap (λ n. find (is_link n l.cport) ls) intf
     ∙ ap (λ n. find (is_link i n) ls) cport) ∙ found-at ls l rise known
+
+-- and so is the one that a sequence waits at
+pub found-waiting : (w : Option (ℕ × SequenceStep)) (p : Purpose) (h : Host) (l : Link)
+    → is_enumeration p.step ≡ false → link_at p.intf p.cport h ≡ Some l
+    → link_at p.intf p.cport (waiting w p h) ≡ Some (link_awaits w l)
+found-waiting w p h l other found =
+    waiting-by (λ g. link_at p.intf p.cport g ≡ Some (link_awaits w l)) w p h
+    (λ e. absurd (not-both (is_enumeration p.step) e other))
+    (λ e. find-changed (is_link p.intf p.cport) (link_awaits w) h.links (λ x. refl)
+    ∙ ap (option_map (link_awaits w)) found)
 
 -- The request of a step to a module's Control goes on its Control connection.
 pub on-control : (p : Purpose) (h : Host) (k : ℕ) → way_of p h ≡ Some k → asks_control p.step ≡ true

@@ -145,14 +145,14 @@ pub record IsFormed (q : Asking) : Type 0 where
   pub on : asks_control q.purpose.step ≡ false → q.on ≡ 1
   pub control : asks_control q.purpose.step ≡ true → 2 ≤ q.on
 
--- The step with which a connection is made.
-pub data IsMaking (w : Making) : SequenceStep → Type 0 where
-  control : w.cport ≡ 0 → IsMaking w steps.CreateControl
-  connection : w.cport ≢ 0 → IsMaking w steps.CreateConnection
+-- The step with which the connection of a CPort is made.
+pub data IsMaking (c : ℕ) : SequenceStep → Type 0 where
+  control : c ≡ 0 → IsMaking c steps.CreateControl
+  connection : c ≢ 0 → IsMaking c steps.CreateConnection
 
 -- A connection may be made: its interface is known, and no other connection has its ends.
 pub record IsFree (w : Making) (q : Asking) (h : Host) : Type 0 where
-  pub step : IsMaking w q.purpose.step
+  pub step : IsMaking w.cport q.purpose.step
   pub intf : q.purpose.intf ≡ w.intf
   pub cport : q.purpose.cport ≡ w.cport
   pub from_one : 1 ≤ w.ap

@@ -1,6 +1,6 @@
 -- What the application processor does of its own is possible, since its connections go
 -- with the bus.
-use Rattle.std.proofs.Common.{◌≡◌, ◌≤◌, ◌<◌, ℕ, false, List}
+use Rattle.std.proofs.Common.{◌≤◌, ◌<◌, ℕ, List}
 use Rattle.std.proofs.Common.{[], ◌∷◌, length, refl, sym, ap, ◌∙◌, inl, inr, subst, arith, ◌++◌}
 use Rattle.gb_base.specs.declared.end.End.TheVariants as end
 use Rattle.gb_base.specs.declared.entry.Entry.{Entry}
@@ -15,13 +15,14 @@ use Rattle.gb_machine.specs.Host.{Host, with_new_interface}
 use Rattle.gb_machine.specs.HostTurns.{host_inserted, host_removed, links_left, links_of}
 use Rattle.gb_machine.specs.HostTurns.{one_by_one, without_interface}
 use Rattle.gb_machine.specs.Members.{IsIn}
-use Rattle.gb_machine.specs.SequenceSteps.{Target, asks_control, kind_of, payload_of}
+use Rattle.gb_machine.specs.SequenceSteps.{Target, kind_of, payload_of}
 use Rattle.gb_machine.specs.Turns.{Act, Asking, Making}
 use Rattle.gb_machine.specs.Wiring.{detached, shut_down}
 use Rattle.gb_invariants.proofs.Lists.{each-from}
 use Rattle.gb_invariants.specs.Attaching.{IsOther}
+use Rattle.gb_laws.proofs.links.LinkDue.{making-asks}
 use Rattle.gb_laws.proofs.links.LinkBuses.{Linked, linked-left, linked-rest, linked-shut}
-use Rattle.gb_laws.proofs.links.Links.{IsFormed, IsFree, IsKnown, IsMaking, connection, control}
+use Rattle.gb_laws.proofs.links.Links.{IsFormed, IsFree, IsKnown}
 use Rattle.gb_laws.proofs.links.Links.{leaving, linked, supervisory}
 use Rattle.gb_laws.specs.Possible.{AreAsks, ArePossible, IsAskable}
 
@@ -76,11 +77,6 @@ apart {b} {h} w q rest f c live =
     }
     by (leaving (inl e)) = absurd cc
     by (leaving (inr i)) = absurd i
-
--- a connection is made by a request to the supervisory controller
-making-asks : {w : Making} {step : SequenceStep} → IsMaking w step → asks_control step ≡ false
-making-asks (control e) = refl
-making-asks (connection e) = refl
 
 -- Acts that are pending are possible.
 pub possible : (acts : List Act) {b : Bus} {h : Host} → Linked b h acts → ArePossible acts b

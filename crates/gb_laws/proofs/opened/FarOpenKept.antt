@@ -1,16 +1,17 @@
 -- What a far side asked and is awaited is on a connection that is live and wired: each single
 -- change keeps it.
-use Rattle.std.proofs.Common.{Bool, Some, ap, cond, false, refl, subst, sym, true, ℕ, ⊎_elim, ◌∙◌}
+use Rattle.std.proofs.Common.{Some, ap, refl, subst, sym, true, ℕ, ⊎_elim, ◌∙◌}
 use Rattle.std.proofs.Common.{◌≡◌}
 use Rattle.gb_base.specs.declared.end.Side.TheVariants as side
 use Rattle.gb_base.specs.declared.interface.Link.{Link}
 use Rattle.gb_base.specs.declared.steps.SequenceStep.{SequenceStep}
 use Rattle.gb_machine.specs.Bus.{Bus, Connection, Request, connection_of, request_of}
-use Rattle.gb_machine.specs.Host.{Host, is_link, with_interface, with_link}
-use Rattle.gb_machine.specs.SequenceSteps.{Target, is_enumeration, kind_of, payload_of}
+use Rattle.gb_machine.specs.Host.{Host, is_link, with_link}
+use Rattle.gb_machine.specs.SequenceSteps.{Target, kind_of, payload_of}
 use Rattle.gb_machine.specs.{Failures.unsent, HostActs.with_awaited, HostServing.host_serves}
 use Rattle.gb_machine.specs.{LineActions.spent}
 use Rattle.gb_machine.specs.{Members.IsIn, Runs.Moment, Sending.Draft}
+use Rattle.gb_invariants.proofs.HostChanges.{link_awaits, waiting-by}
 use Rattle.gb_invariants.proofs.{Awaiting.none-some, Awaiting.same-some, BusChanges.KeepsRequests}
 use Rattle.gb_invariants.proofs.{Lists.in-at_first, Lists.in-pushed, Numbers.found-by_number}
 use Rattle.gb_invariants.proofs.{Numbers.found-number, Selves.ap-no-far, Wires.AreOn}
@@ -79,7 +80,8 @@ kinds-kept m a (acts_asked q n rest is) links pairs h =
     subst (λ b. WaitsKinds b (with_awaited q.purpose n a.state).host)
     (sym (awaited-rest q.purpose n).bus)
     (subst (λ g. WaitsKinds a.state.bus g) (sym (awaited-host q.purpose n a.state))
-    (by (is_enumeration q.purpose.step)))
+    (waiting-by (WaitsKinds a.state.bus) (Some (n, q.purpose.step)) q.purpose a.state.host
+    (λ s. h) (λ s. at)))
   where
     formed : IsFormed q
     formed = (subst (ArePending a.state.host) is.0 links.pending).0.2
@@ -93,16 +95,13 @@ kinds-kept m a (acts_asked q n rest is) links pairs h =
       payload = k.payload ∙ formed.payload;
     }
 
-    by : (t : Bool) → WaitsKinds a.state.bus (cond t (with_interface q.purpose.intf
-        (λ y. record y { awaits = Some (n, q.purpose.step) }) a.state.host)
-        (with_link q.purpose.intf q.purpose.cport
-        (λ l. record l { awaits = Some (n, q.purpose.step) }) a.state.host))
-    by true l live w e = h l live w e
-    by false l live w e = ⊎_elim (λ o. h l o w e)
+    at : WaitsKinds a.state.bus (with_link q.purpose.intf q.purpose.cport
+        (link_awaits (Some (n, q.purpose.step))) a.state.host)
+    at l live w e = ⊎_elim (λ o. h l o w e)
         (λ v. subst (λ (y : ℕ × SequenceStep). HasStep y.0 y.1 a.state.bus)
         (same-some (n, q.purpose.step) w (sym (ap (λ (y : Link). y.awaits) v.3) ∙ e)) new)
         (in-at_first (is_link q.purpose.intf q.purpose.cport)
-        (λ (y : Link). record y { awaits = Some (n, q.purpose.step) }) a.state.host.links l live)
+        (link_awaits (Some (n, q.purpose.step))) a.state.host.links l live)
 kinds-kept m a (acts_failed q rest is quiet) links pairs h =
     kinds-on a.state.bus a.state.bus a.state.host (unsent q.purpose a.state.host).host
     (λ n r made. made) (come-from a.state.host (unsent q.purpose a.state.host).host
