@@ -115,55 +115,48 @@ around-first k h one hs mine is =
       others = λ j other. ap (held_on j) left ∙ elsewhere-on j k h hs mine other;
     }
 
--- it is behind another of the connection
+-- it is behind another request, which stays
+around-cons : (k i place : ℕ) (h one : Held) (hs : List Held)
+    → held_without k (suc place) (h ∷ hs) ≡ h ∷ held_without k (suc i) hs
+    → held_on k (h ∷ held_without k (suc i) hs) ≡ remove (held_on k (h ∷ hs)) place
+    → Around k i hs one → Around k place (h ∷ hs) one
+around-cons k i place h one hs left here a = record {
+  before = h ∷ a.before;
+  after = a.after;
+  whole = ap (λ gs. h ∷ gs) a.whole;
+  left = left ∙ ap (λ gs. h ∷ gs) a.left;
+  on = a.on;
+  here = ap (held_on k) left ∙ here;
+  others = λ j apart.
+      ap (held_on j) left
+      ∙ ap (λ gs. cond (h.connection == j) (h ∷ gs) gs) (a.others j apart);
+}
+
+-- that is of the connection
 around-behind : (k i : ℕ) (h one : Held) (hs : List Held) → (h.connection == k) ≡ true
     → Around k i hs one → Around k (suc i) (h ∷ hs) one
 around-behind k i h one hs mine a =
-    let left : held_without k (suc (suc i)) (h ∷ hs) ≡ h ∷ held_without k (suc i) hs =
-    ap (λ t. cond t (cond (suc (suc i) == 1) hs (h ∷ held_without k (suc (suc i) - 1) hs))
+    around-cons k i (suc i) h one hs
+    (ap (λ t. cond t (cond (suc (suc i) == 1) hs (h ∷ held_without k (suc (suc i) - 1) hs))
     (h ∷ held_without k (suc (suc i)) hs)) mine
     ∙ ap (λ t. cond t hs (h ∷ held_without k (suc (suc i) - 1) hs)) (past-one i)
-    ∙ ap (λ m. h ∷ held_without k m hs) (one-less i) in
-    record {
-      before = h ∷ a.before;
-      after = a.after;
-      whole = ap (λ gs. h ∷ gs) a.whole;
-      left = left ∙ ap (λ gs. h ∷ gs) a.left;
-      on = a.on;
-      here =
-          ap (held_on k) left
-          ∙ ap (λ t. cond t (h ∷ held_on k (held_without k (suc i) hs))
-          (held_on k (held_without k (suc i) hs))) mine
-          ∙ ap (λ gs. h ∷ gs) a.here
-          ∙ sym (ap (λ t. remove (cond t (h ∷ held_on k hs) (held_on k hs)) (suc i)) mine);
-      others = λ j other.
-          ap (held_on j) left
-          ∙ ap (λ gs. cond (h.connection == j) (h ∷ gs) gs) (a.others j other);
-    }
+    ∙ ap (λ m. h ∷ held_without k m hs) (one-less i))
+    (ap (λ t. cond t (h ∷ held_on k (held_without k (suc i) hs))
+    (held_on k (held_without k (suc i) hs))) mine
+    ∙ ap (λ gs. h ∷ gs) a.here
+    ∙ sym (ap (λ t. remove (cond t (h ∷ held_on k hs) (held_on k hs)) (suc i)) mine)) a
 
--- it is behind one of another connection
+-- or of another
 around-past : (k i : ℕ) (h one : Held) (hs : List Held) → (h.connection == k) ≡ false
     → Around k i hs one → Around k i (h ∷ hs) one
 around-past k i h one hs other a =
-    let left : held_without k (suc i) (h ∷ hs) ≡ h ∷ held_without k (suc i) hs =
-    ap (λ t. cond t (cond (suc i == 1) hs (h ∷ held_without k (suc i - 1) hs))
-    (h ∷ held_without k (suc i) hs)) other in
-    record {
-      before = h ∷ a.before;
-      after = a.after;
-      whole = ap (λ gs. h ∷ gs) a.whole;
-      left = left ∙ ap (λ gs. h ∷ gs) a.left;
-      on = a.on;
-      here =
-          ap (held_on k) left
-          ∙ ap (λ t. cond t (h ∷ held_on k (held_without k (suc i) hs))
-          (held_on k (held_without k (suc i) hs))) other
-          ∙ a.here
-          ∙ sym (ap (λ t. remove (cond t (h ∷ held_on k hs) (held_on k hs)) i) other);
-      others = λ j apart.
-          ap (held_on j) left
-          ∙ ap (λ gs. cond (h.connection == j) (h ∷ gs) gs) (a.others j apart);
-    }
+    around-cons k i i h one hs
+    (ap (λ t. cond t (cond (suc i == 1) hs (h ∷ held_without k (suc i - 1) hs))
+    (h ∷ held_without k (suc i) hs)) other)
+    (ap (λ t. cond t (h ∷ held_on k (held_without k (suc i) hs))
+    (held_on k (held_without k (suc i) hs))) other
+    ∙ a.here
+    ∙ sym (ap (λ t. remove (cond t (h ∷ held_on k hs) (held_on k hs)) i) other)) a
 
 pub around : (k i : ℕ) (hs : List Held) (one : Held) → nth (suc i) (held_on k hs) ≡ Some one
     → Around k i hs one

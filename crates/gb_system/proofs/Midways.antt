@@ -69,13 +69,7 @@ midway-here g m same = record {
 -- the rest is the same
 abbrev pub midway-as : {x : Parties} {whole f : Action} {s : State} {a b : List Entry} (g : Action)
     → f ≡ g → Midway x whole f s a b → Midway x whole g s a b
-midway-as g same m = record {
-  state = m.state;
-  entries = m.entries;
-  is = m.is ∙ ap (λ (h : Action). told_before m.entries (h m.state)) same;
-  told_is = m.told_is;
-  stand = m.stand;
-}
+midway-as g same m = midway-here g m (ap (λ (h : Action). h m.state) same)
 
 -- nothing is left
 pub midway-end : {x : Parties} {whole : Action} {s : State} {a b : List Entry}
