@@ -17,7 +17,7 @@ use Rattle.gb_desk.specs.Slots.{IsEnded, new_slot, slot_at}
 use Rattle.gb_desk.specs.Steps.{Knows, Opens, opening}
 use Rattle.gb_desk.specs.Tickets.{ticket}
 use Rattle.gb_base.specs.declared.errors.OutOfMemory.{OutOfMemory}
-use Rattle.gb_desk.specs.Turns.{Asked, AsksAs, BarsAs, Breaks, IsReady, with_new, is_broken}
+use Rattle.gb_desk.specs.Turns.{Asked, AsksInTurn, BarsAs, Breaks, IsReady, with_new, is_broken}
 use Rattle.gb_desk.specs.declared.desk_fault.DeskFault.{DeskFault}
 use Rattle.gb_desk.specs.declared.desk_fault.DeskFault.TheVariants as fault
 use Rattle.gb_desk.specs.declared.stored.Stored.{Stored}
@@ -136,7 +136,7 @@ broke v x y z refused i me f is b = record {
 
 pub broke_by : (v : View) (x y z : Stored) (i by : ℕ) (e : Event) (spent : Bool)
     (f : DeskFault) (me : Knows) → Found v x i me → me.1 ≡ (0, y) ∷ rest me.1
-    → AsksAs y i by e (Err f) z → OpensAs v x spent by e (Err f) (me.0, (0, z) ∷ rest me.1)
+    → AsksInTurn y i by e (Err f) z → OpensAs v x spent by e (Err f) (me.0, (0, z) ∷ rest me.1)
 broke_by v x y z i by e spent (fault.Memory refused) me f is a = broke v x y z refused i me f is a
 broke_by v x y z i by e spent fault.Busy me f is a = absurd a
 broke_by v x y z i by e spent fault.JournalSpent me f is a = absurd a

@@ -111,10 +111,10 @@ pub record Asked (x : Stored) (at by : ℕ) (e : Event) (o : Opened) (y : Stored
   pub left : y ≡ with_new at (asked_in o.entries) after
 
 -- what an event that asks a request does in its turn, where a slot is free
-abbrev pub AsksAs : Stored → ℕ → ℕ → Event → Result Opened DeskFault → Stored → Type 0
-AsksAs x at by e (Ok o) y = Asked x at by e o y
-AsksAs x at by e (Err (fault.Memory refused)) y = Breaks x refused y
-AsksAs x at by e (Err fault.Busy) y = ⊥
-AsksAs x at by e (Err fault.JournalSpent) y = ⊥
-AsksAs x at by e (Err fault.PassSpent) y = ⊥
-AsksAs x at by e (Err fault.Full) y = ⊥
+abbrev pub AsksInTurn : Stored → ℕ → ℕ → Event → Result Opened DeskFault → Stored → Type 0
+AsksInTurn x at by e (Ok o) y = Asked x at by e o y
+AsksInTurn x at by e (Err (fault.Memory refused)) y = Breaks x refused y
+AsksInTurn x at by e (Err fault.Busy) y = ⊥
+AsksInTurn x at by e (Err fault.JournalSpent) y = ⊥
+AsksInTurn x at by e (Err fault.PassSpent) y = ⊥
+AsksInTurn x at by e (Err fault.Full) y = ⊥

@@ -26,7 +26,7 @@ pub struct Stored {
 
 impl Stored {
     ghost use Rattle.gb_desk.specs.Tickets.{ticket};
-    ghost use Rattle.gb_desk.specs.Turns.{AddsAs, AsksAs, BarsAs, TriesAs, TurnsAs};
+    ghost use Rattle.gb_desk.specs.Turns.{AddsAs, AsksInTurn, BarsAs, TriesAs, TurnsAs};
     ghost use Rattle.gb_desk.specs.Turns.{is_broken, with_new};
     ghost use Rattle.gb_laws.specs.Tickets.{asked_in};
 
@@ -95,7 +95,7 @@ impl Stored {
         requires whole { is_broken self.old ≡ false }
         requires room { taken_of self.old.system < 4294967295 }
         requires slot { at < 256 }
-        ensures asked { AsksAs self.old at by e.now result self.new }
+        ensures asked { AsksInTurn self.old at by e.now result self.new }
     {
         match self.try_add(by, e) {
             Ok(entries) => Ok(self.opened(at, entries)),

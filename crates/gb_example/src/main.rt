@@ -10,6 +10,8 @@ ghost use Rattle.gb_formats.specs.ValidEvents.{IsName};
 mod rig;
 
 use gb_base::{BridgeAsk, Bytes, Event, Name, OutOfMemory, Word};
+use gb_bridge_payload::SUCCESS;
+use gb_bridge_payload::gpio_kinds::LINE_COUNT;
 use gb_manifest::{Manifest, check};
 use gb_wire::{RESPONSE, decode};
 use rig::Rig;
@@ -53,7 +55,7 @@ fn is_success(bytes: &[u8], id: u16) -> bool
     ensures { result ≡ begins_with_success id bytes.now }
 {
     match decode(bytes) {
-        Ok((m, _size)) => m.id == id && m.kind >= RESPONSE && m.result == 0,
+        Ok((m, _size)) => m.id == id && m.kind >= RESPONSE && m.result == SUCCESS,
         Err(_) => false,
     }
 }
@@ -85,7 +87,7 @@ fn session(rig: &mut Rig, alloc: Global, name: Name, manifest: &[u8]) -> Result<
 {
     let manifest = Bytes::from_slice(alloc, manifest)?;
     let ask = BridgeAsk::Gpio {
-        kind: 0x02,
+        kind: LINE_COUNT,
         line: 0,
         value: 0,
     };

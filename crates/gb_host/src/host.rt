@@ -10,7 +10,7 @@ use gb_base::{ConnState, Interface, IntfStage, OutOfMemory};
 use gb_firmware::Images;
 use std::alloc::Global;
 
-/// The connection of the supervisory controller.
+/// The number of the connection of the supervisory controller.
 pub const SVC: u64 = 1;
 
 /// What the application processor tells of an interface.

@@ -26,5 +26,5 @@ mod waiting;
 
 pub use acts::{Act, Acts};
 pub use gb_firmware::PutFault;
-pub use host::{Host, IntfView};
+pub use host::{Host, IntfView, SVC};
 pub use served::HostServed;

@@ -8,11 +8,8 @@ ghost use Rattle.gb_session.specs.Sessions.{without};
 
 use crate::reporter::{Ran, Reporter};
 use gb_base::OutOfMemory;
-use gb_script::Line;
+use gb_script::{LONGEST_LINE, Line};
 use std::alloc::Global;
-
-/// How many bytes of a line are handed on.
-const LONGEST_LINE: usize = 8192;
 
 /// How a line ended.
 #[derive(Clone, Copy, Debug, PartialEq, Eq)]

@@ -15,13 +15,12 @@ ghost use Rattle.gb_system.specs.Stands.{PartsStand};
 
 use crate::asking::{DEFAULT_TIMEOUT, Draft};
 use crate::parties::Parties;
-use crate::svc::SVC;
 use gb_base::{
     ConnState, Entries, Entry, HostEvent, Numbers, OutOfMemory, Outcome, Purpose, Reading, Side,
     TryCopy,
 };
 use gb_bus::AttachFault;
-use gb_host::Act;
+use gb_host::{Act, SVC};
 
 impl Parties {
     /// The application processor takes notice of something, and does what it does then.

@@ -14,8 +14,8 @@ ghost use Rattle.gb_system.specs.Stands.{PartiesStand, PartsStand};
 
 use crate::parties::Parties;
 use crate::stop::Stop;
-use crate::svc::SVC;
 use gb_base::{Entries, HostEvent, Refusal, Side};
+use gb_host::SVC;
 
 impl Parties {
     /// The application processor connects a CPort of an interface.

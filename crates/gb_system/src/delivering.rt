@@ -17,6 +17,7 @@ use crate::parties::Parties;
 use crate::stop::Stop;
 use gb_base::{End, Entries, Entry, Outcome, Reading, Refusal, Side};
 use gb_bus::{Arrival, Arrived, DeliverFault};
+use gb_payload::SUCCESS;
 
 impl Parties {
     /// Delivers the front message toward an end: takes it, handles it, and tells what comes of it.
@@ -99,7 +100,7 @@ impl Parties {
             → result ≡ reading_at (side_of at) c kind code payload.now }
     {
         match at {
-            End::Ap(_) if code == 0 => self.host.reading(connection, kind, payload),
+            End::Ap(_) if code == SUCCESS => self.host.reading(connection, kind, payload),
             _ => Reading::Nothing,
         }
     }

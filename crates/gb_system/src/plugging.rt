@@ -21,9 +21,9 @@ ghost use Rattle.gb_system.specs.Stands.{PartiesStand, PartsStand};
 use crate::modules::Plugged;
 use crate::parties::Parties;
 use crate::stop::Stop;
-use crate::svc::SVC;
 use gb_base::{Entries, Kinds, OutOfMemory, Refusal, Side};
 use gb_bridge_payload::MOST_PAYLOAD;
+use gb_host::SVC;
 use gb_module::Module;
 use gb_payload::svc_kinds::{HELLO, MODULE_INSERTED, MODULE_REMOVED, PROTOCOL_VERSION};
 

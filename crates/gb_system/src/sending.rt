@@ -17,9 +17,10 @@ use crate::asking::Draft;
 use crate::key::Key;
 use crate::parties::Parties;
 use crate::stop::Stop;
-use crate::svc::{SVC, is_reserved};
+use crate::svc::is_reserved;
 use gb_base::{End, Entries, Name, OutOfMemory, Refusal, Side};
 use gb_bridge_payload::MOST_PAYLOAD;
+use gb_host::SVC;
 
 impl Parties {
     /// Sends a request to the supervisory controller or to a CPort of a module. The timeout

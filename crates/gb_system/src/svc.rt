@@ -1,4 +1,4 @@
-//! The connection of the supervisory controller, and the types that a script may not send on it.
+//! The types that a script may not send on the connection of the supervisory controller.
 
 ghost use Rattle.std.specs.Prelude.{◌≡◌};
 ghost use Rattle.gb_machine.specs.Refusals.{is_reserved};
@@ -7,9 +7,6 @@ use gb_payload::svc_kinds::{
     CONN_CREATE, CONN_DESTROY, INTF_ACTIVATE, INTF_DEVICE_ID, REFCLK_ENABLE, ROUTE_CREATE,
     ROUTE_DESTROY, UNIPRO_ENABLE, VSYS_ENABLE,
 };
-
-/// The number of the connection of the supervisory controller.
-pub const SVC: u64 = 1;
 
 /// Whether the application processor keeps a type for its own sequences.
 pub fn is_reserved(kind: u8) -> bool

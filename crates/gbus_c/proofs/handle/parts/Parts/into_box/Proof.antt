@@ -68,11 +68,11 @@ module _ (E : Bx) where
     abbrev held : Clauses 𝓤 ended
     held = F.clauses E.row E.al.row E.al.g E.al.d E.al.drops 𝓛 at_mem run
 
-    abbrev Shuts : Contract 𝓤
-    Shuts = triple_of 𝓛 (Fr.signature E.row E.al.row E.al.g E.al.d E.al.drops)
+    abbrev Boxes : Contract 𝓤
+    Boxes = triple_of 𝓛 (Fr.signature E.row E.al.row E.al.g E.al.d E.al.drops)
         (Fr.spec E.row E.al.row E.al.g E.al.d E.al.drops 𝓛 at_mem run)
 
-    walk : Triple 𝓤 (𝓣.C (raw_sym.name (args E))) Shuts →
+    walk : Triple 𝓤 (𝓣.C (raw_sym.name (args E))) Boxes →
         (z : (walk_of 𝓛 ended stayed held).Ghost) →
         ent 𝓤 ((walk_of 𝓛 ended stayed held).pre z) (WpFn 𝓤 H 𝓣.C 𝓣.Λ fn' (z.0.4.0 ++ [])
         ((walk_of 𝓛 ended stayed held).post z))
@@ -87,7 +87,7 @@ module _ (E : Bx) where
         split ! $ move ! (1 ∷ []) $ fsplit ! $
         box_out E ! v z.0.4.0 (λ b o hv e ws fa. fjoin ! $
         let w = word E hv b o in
-        let y : Shuts.Ghost = (
+        let y : Boxes.Ghost = (
           (
             κs,
             qs,
@@ -117,8 +117,8 @@ module _ (E : Bx) where
         -- [what it requires; the handle; true; the tokens]
         move ! (2 ∷ []) $ feq_i ! (List Val) (vptr b o ∷ []) (vptr b o ∷ []) refl $ fjoin ! $
         move ! (2 ∷ 0 ∷ []) $ fjoin ! $ move ! (2 ∷ 0 ∷ []) $ join ! $ join ! $
-        use1 𝓛 (raw (Shuts.pre y)) (id⊢ 𝓤 _) $
-        calls_at_last ! (fm_of 𝓤 H 𝓛.laws 𝓣) Shuts kn y (and_then ! (get ! refl) (and_then !
+        use1 𝓛 (raw (Boxes.pre y)) (id⊢ 𝓤 _) $
+        calls_at_last ! (fm_of 𝓤 H 𝓛.laws 𝓣) Boxes kn y (and_then ! (get ! refl) (and_then !
         (get ! refl) (no_more !))) (λ u.
         use1 𝓛 (later (some (λ (r : D E). (ts ⊛ ‵ ((B E).own_val r (u ∷ []))) ⊛ some (λ
         (_ : Unit {0} × (Unit {0} × Unit {0})). ‵ (fsep ftrue (fsep ftrue ftrue)) ⊛ (raw (fact 𝓤

@@ -72,11 +72,11 @@ module _ (E : Bx) (dx : Dict) where
     abbrev held : Clauses 𝓤 ended
     held = F.clauses E.row E.al.row E.al.g E.al.d E.al.drops dx 𝓛 at_mem run
 
-    abbrev Opens : Contract 𝓤
-    Opens = triple_of 𝓛 (Ra.signature E.row E.al.row E.al.g E.al.d E.al.drops dx)
+    abbrev Unboxes : Contract 𝓤
+    Unboxes = triple_of 𝓛 (Ra.signature E.row E.al.row E.al.g E.al.d E.al.drops dx)
         (Ra.spec E.row E.al.row E.al.g E.al.d E.al.drops dx 𝓛 at_mem run)
 
-    walk : Triple 𝓤 (𝓣.C (raw_sym.name args)) Opens → (z : (walk_of 𝓛 ended stayed held).Ghost) →
+    walk : Triple 𝓤 (𝓣.C (raw_sym.name args)) Unboxes → (z : (walk_of 𝓛 ended stayed held).Ghost) →
         ent 𝓤 ((walk_of 𝓛 ended stayed held).pre z) (WpFn 𝓤 H 𝓣.C 𝓣.Λ fn' (z.0.4.0 ++ [])
         ((walk_of 𝓛 ended stayed held).post z))
     walk kn z =
@@ -89,15 +89,15 @@ module _ (E : Bx) (dx : Dict) where
         move ! (1 ∷ []) $ fsplit ! $
         box_out E ! v z.0.4.0 (λ b o hv e ws fa. box_in E ! v b o v.value e refl $
         let w = word E hv b o in
-        let y : Opens.Ghost = ((κs, qs, tt, (v, tt), (w ∷ [], tt)), tt) in
+        let y : Unboxes.Ghost = ((κs, qs, tt, (v, tt), (w ∷ [], tt)), tt) in
         let Γ : List (Item 𝓤) = ‵ ((B E).own_val v (w ∷ [])) ∷ ‵ ftrue ∷ ts ∷ alive ∷ [] in
         by ! (subst (λ (us : List Val). ent 𝓤 (types.Kit.⋆ 𝓛 Γ) (WpFn 𝓤 H 𝓣.C 𝓣.Λ fn'
         (us ++ []) Post)) (sym ws)
         (qed 𝓛 Γ ∵ enter ! 𝓣.C 𝓣.Λ fn' (w ∷ []) _ $
         alloc_all ! (λ ls. pass_all ! refl (box_typed E hv b o fa, tt) $
         sets ! (of_opd ! (get ! refl)) refl (box_typed E hv b o fa) $
-        fjoin ! $ move ! (1 ∷ 0 ∷ []) $ join ! $ join ! $ use1 𝓛 (raw (Opens.pre y)) (id⊢ 𝓤 _) $
-        calls_at ! (fm_of 𝓤 H 𝓛.laws 𝓣) Opens kn y (and_then ! (get ! refl) (no_more !)) (λ u.
+        fjoin ! $ move ! (1 ∷ 0 ∷ []) $ join ! $ join ! $ use1 𝓛 (raw (Unboxes.pre y)) (id⊢ 𝓤 _) $
+        calls_at ! (fm_of 𝓤 H 𝓛.laws 𝓣) Unboxes kn y (and_then ! (get ! refl) (no_more !)) (λ u.
         use1 𝓛 (later (some (λ (r : Ptr × E.al.row.Denot). (ts ⊛ ‵ ((Tuple
         (RawPtr ∷ P E ∷ [])).own_val r (u ∷ []))) ⊛ some (λ (_ : (Unit {0} ×
         (Unit {0} × Unit {0})) × Unit {0}). ‵ (fsep (fsep ftrue (fsep ftrue ftrue)) ftrue) ⊛ (raw
