@@ -1,6 +1,6 @@
 //! A run with requesters.
 
-ghost use Rattle.std.specs.Prelude.{◌≡◌, ◌+◌, ◌<◌, [], ◌∷◌, IfOk, OnOk, length};
+ghost use Rattle.std.specs.Prelude.{◌≡◌, ◌+◌, ◌<◌, [], ◌∷◌, IfOk, IsErrOf, OnOk, length};
 ghost use Rattle.gb_desk.specs.Passes.{IsOf};
 ghost use Rattle.gb_desk.specs.Rules.{all_parts};
 ghost use Rattle.gb_desk.specs.declared.view.View.{View};
@@ -11,6 +11,7 @@ ghost use Rattle.gb_share.specs.Lines.{AreValid};
 ghost use Rattle.gb_share.specs.Requesters.{AllValid, AreFresh, AreNumbered, AreSame, AreWhole};
 ghost use Rattle.gb_share.specs.Requesters.{HaveOpened, HaveRun, parts_for};
 ghost use Rattle.gb_share.specs.Shares.{IsShared};
+ghost use Rattle.gb_share.specs.Uses.{HasMost, Uses, all_left, lines_left};
 
 use crate::hand::Hand;
 use crate::requester::Requester;
@@ -39,6 +40,9 @@ fn run_rest(
     ensures ran { OnOk result ((v : View) → HaveRun all.old v (knows hand.old)
         → HaveRun all.new v (knows hand.new)) }
     ensures whole { OnOk result (AreWhole all.new) }
+    ensures uses { Uses (all_left all.old) 0 (knows hand.old) (knows hand.new) }
+    ensures spent { length (knows hand.old).tickets + all_left all.old < all_parts
+        → IsErrOf result ShareStop.Spent → HasMost (knows hand.new) }
 {
     for at in 0..all.len() {
         all[at].run(alloc, desk, hand, &FreeGate)?;
@@ -70,6 +74,9 @@ fn run_lines<R: Threads + Sync, G: Gate>(
     ensures ran { OnOk result (HaveOpened first.new others.new (knows hand.old)
         (knows hand.new)) }
     ensures whole { OnOk result (AreWhole (first.new ∷ others.new)) }
+    ensures uses { Uses (lines_left first.old + all_left others.old) 0 (knows hand.old)
+        (knows hand.new) }
+    ensures spent { IsErrOf result ShareStop.Spent → HasMost (knows hand.new) }
     ensures exact { IsAlone first.old (knows hand.old) hand.old.held.items
         → OnOk result (IsExact first.new (knows hand.new)) }
 {
@@ -79,7 +86,8 @@ fn run_lines<R: Threads + Sync, G: Gate>(
 }
 
 /// Runs the lines of requester 0 alone, and then those of the others at once, each in a thread of
-/// its own with calls of the gate. What they left is run behind all that.
+/// its own with calls of the gate. What they left is run behind all that. Neither the history nor a
+/// pass is ever spent: each line brings one event and one ticket at most.
 pub fn share<R: Threads + Sync, G: Gate>(
     rt: &R,
     alloc: Global,
@@ -93,6 +101,7 @@ pub fn share<R: Threads + Sync, G: Gate>(
     requires few { length first.old.lines + parts_for others.old < all_parts }
     ensures same { AreSame (first.old ∷ others.old) (first.new ∷ others.new) }
     ensures shared { IfOk result (λ r. IsShared (first.new ∷ others.new) r.0 r.1) }
+    ensures unspent { IsErrOf result ShareStop.Spent → ⊥ }
 {
     let system = System::new(alloc)?;
     let (desk, pass) = Desk::new(alloc, system)?;

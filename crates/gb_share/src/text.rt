@@ -1,6 +1,6 @@
 //! What is written of a script with requesters.
 
-ghost use Rattle.std.specs.Prelude.{◌≡◌, ◌<◌, ◌≤◌, IfOk, length};
+ghost use Rattle.std.specs.Prelude.{◌≡◌, ◌<◌, ◌≤◌, IfOk, IsErrOf, length};
 ghost use Rattle.std.specs.String.{string_bytes};
 ghost use Rattle.gb_share.specs.Lines.{AreValid};
 ghost use Rattle.gb_share.specs.Parting.{AreReadyToRun};
@@ -28,6 +28,7 @@ fn share_all<R: Threads + Sync, G: Gate>(
     requires { AreReadyToRun all.old }
     ensures same { AreSame all.old all.new }
     ensures shared { IfOk result (λ r. IsShared all.new r.0 r.1) }
+    ensures unspent { IsErrOf result ShareStop.Spent → ⊥ }
 {
     let Some((first, others)) = all.split_first_mut() else {
         unreachable!()
@@ -67,7 +68,8 @@ pub fn shared_text<R: Threads + Sync, G: Gate>(
 ) -> Result<String, ShareStop>
     requires valid { AreValid asked }
     requires few { length asked ≤ 1048577 }
-    ensures { IfOk result (λ text. IsTold hex asked (string_bytes text)) }
+    ensures told { IfOk result (λ text. IsTold hex asked (string_bytes text)) }
+    ensures unspent { IsErrOf result ShareStop.Spent → ⊥ }
 {
     let mut all = requesters(alloc, asked)?;
     let (system, journal) = share_all(rt, alloc, all.as_mut_slice(), gate)?;
