@@ -17,7 +17,7 @@ use crate::hand::Hand;
 use crate::requester::Requester;
 use crate::stop::ShareStop;
 use crate::threads::run_all;
-use gb_base::{FreeGate, Gate};
+use gb_base::{FreeGate, Gate, OutOfMemory};
 use gb_desk::{Desk, Journal};
 use gb_system::System;
 use std::alloc::Global;
@@ -94,20 +94,22 @@ pub fn share<R: Threads + Sync, G: Gate>(
     first: &mut Requester,
     others: &mut [Requester],
     gate: &G,
-) -> Result<(System, Journal), ShareStop>
+) -> Result<(System, Journal), OutOfMemory>
     requires first { (first.old.who ≡ 0) × (first.old.full ≡ []) }
     requires others { AreNumbered others.old × AreFresh others.old }
     requires valid { AreValid first.old.lines × AllValid others.old }
     requires few { length first.old.lines + parts_for others.old < all_parts }
     ensures same { AreSame (first.old ∷ others.old) (first.new ∷ others.new) }
     ensures shared { IfOk result (λ r. IsShared (first.new ∷ others.new) r.0 r.1) }
-    ensures unspent { IsErrOf result ShareStop.Spent → ⊥ }
 {
     let system = System::new(alloc)?;
     let (desk, pass) = Desk::new(alloc, system)?;
     let mut hand = Hand::new(alloc, pass);
     let ran = run_lines(rt, alloc, &desk, &mut hand, first, others, gate);
     let end = hand.close(desk);
-    ran?;
-    Ok(end)
+    match ran {
+        Ok(()) => Ok(end),
+        Err(ShareStop::Memory(refused)) => Err(refused),
+        Err(ShareStop::Spent) => unreachable!(),
+    }
 }

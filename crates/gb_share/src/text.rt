@@ -1,6 +1,6 @@
 //! What is written of a script with requesters.
 
-ghost use Rattle.std.specs.Prelude.{◌≡◌, ◌<◌, ◌≤◌, IfOk, IsErrOf, length};
+ghost use Rattle.std.specs.Prelude.{◌≡◌, ◌<◌, ◌≤◌, IfOk, length};
 ghost use Rattle.std.specs.String.{string_bytes};
 ghost use Rattle.gb_share.specs.Lines.{AreValid};
 ghost use Rattle.gb_share.specs.Parting.{AreReadyToRun};
@@ -11,7 +11,6 @@ use crate::merging::Merging;
 use crate::parting::requesters;
 use crate::requester::Requester;
 use crate::sharing::share;
-use crate::stop::ShareStop;
 use gb_base::{Asked, Gate, OutOfMemory, Sequence};
 use gb_desk::Journal;
 use gb_system::System;
@@ -24,11 +23,10 @@ fn share_all<R: Threads + Sync, G: Gate>(
     alloc: Global,
     all: &mut [Requester],
     gate: &G,
-) -> Result<(System, Journal), ShareStop>
+) -> Result<(System, Journal), OutOfMemory>
     requires { AreReadyToRun all.old }
     ensures same { AreSame all.old all.new }
     ensures shared { IfOk result (λ r. IsShared all.new r.0 r.1) }
-    ensures unspent { IsErrOf result ShareStop.Spent → ⊥ }
 {
     let Some((first, others)) = all.split_first_mut() else {
         unreachable!()
@@ -65,11 +63,10 @@ pub fn shared_text<R: Threads + Sync, G: Gate>(
     asked: Sequence<Asked>,
     hex: bool,
     gate: &G,
-) -> Result<String, ShareStop>
+) -> Result<String, OutOfMemory>
     requires valid { AreValid asked }
     requires few { length asked ≤ 1048577 }
-    ensures told { IfOk result (λ text. IsTold hex asked (string_bytes text)) }
-    ensures unspent { IsErrOf result ShareStop.Spent → ⊥ }
+    ensures { IfOk result (λ text. IsTold hex asked (string_bytes text)) }
 {
     let mut all = requesters(alloc, asked)?;
     let (system, journal) = share_all(rt, alloc, all.as_mut_slice(), gate)?;

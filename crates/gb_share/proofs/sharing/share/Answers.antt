@@ -3,7 +3,6 @@ use Rattle.gb_desk.specs.Passes.{known}
 use Rattle.gb_share.proofs.AloneEnds.{alone_first}
 use Rattle.gb_share.proofs.Closings.{shared_end}
 use Rattle.gb_share.proofs.Using.{never_most}
-use Rattle.gb_share.proofs.Results.{err_same}
 use Rattle.gb_share.proofs.Rests.{numbered_same, same_first, valid_first, valid_same}
 use Rattle.gb_share.proofs.sharing.share.Goals as goal
 
@@ -24,9 +23,9 @@ returns-clause-shared g c =
     c.requires.first.1 (ap known c.new-hand.ensures.pass ∙ c.in_ok-desk.ensures.first)
     c.new-hand.ensures.held))
 
-pub returns-in_err-ran-clause-unspent : goal.returns-in_err-ran-clause-unspent
-returns-in_err-ran-clause-unspent g c is =
+pub unreachable-in-Err-Spent : goal.unreachable-in-Err-Spent
+unreachable-in-Err-Spent g c =
     never_most c.args.first.now c.args.others.now _ _ c.in_ok-system.system _ _ c.requires.few
     (ap known c.new-hand.ensures.pass ∙ c.in_ok-desk.ensures.first) c.in_ok-system.ensures.taken
     c.run_lines-ran.ensures.uses c.close-end.ensures
-    (c.in_err-ran.ensures.spent (err_same _ _ _ c.from_residual.ensures.1 is))
+    (c.run_lines-ran.ensures.spent c.in-Err-Spent.is)

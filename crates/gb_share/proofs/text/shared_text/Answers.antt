@@ -13,8 +13,8 @@ share_all-requires-after_bounds g c κs within =
     (ready c.args.asked c.in_ok-all.all.items c.in_ok-all.ensures c.requires.valid
     c.requires.few)
 
-pub returns-clause-told : goal.returns-clause-told
-returns-clause-told g c =
+pub returns : goal.returns
+returns g c =
     let are : AreRequesters c.args.asked c.as_mut_slice.result.now =
     subst (λ (xs : List Requester). AreRequesters c.args.asked xs)
     (sym c.as_mut_slice.ensures.value) c.in_ok-all.ensures in
