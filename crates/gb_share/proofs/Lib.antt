@@ -34,3 +34,5 @@ pub mod Alones
 pub mod HandSteps
 pub mod AloneEnds
 pub mod Picking
+pub mod Counting
+pub mod Using

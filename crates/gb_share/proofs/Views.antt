@@ -2,7 +2,7 @@
 use Rattle.std.proofs.Common.{◌≡◌, ℕ, true, Result, Ok, Err, Option}
 use Rattle.std.proofs.Common.{None, List, [], ◌∷◌, ◌++◌, length, sym, ap, ◌∙◌, arith}
 use Rattle.std.proofs.Common.{append_assoc, subst}
-use Rattle.std.proofs.lemmas.List.{append-nil}
+use Rattle.std.proofs.lemmas.List.{append-nil, length-append}
 use Rattle.std.specs.Prelude.{◌||◌}
 use mathlib.Core.List.{IsPrefix}
 use Rattle.gb_base.specs.declared.entry.Entry.{Entry}
@@ -24,6 +24,7 @@ use Rattle.gb_share.proofs.Places.{stands_append}
 use Rattle.gb_share.proofs.Requests.{enough_made}
 use Rattle.gb_share.specs.Doing.{Adds, DoesAs, IsAlike, IsJoined, IsWithin, Stays, done_by}
 use Rattle.gb_share.specs.Doing.{done_from, events_by, stands_in, tagged}
+use Rattle.gb_share.specs.Uses.{Grows, places_for}
 use Rattle.gb_system.specs.declared.system.System.{System}
 
 -- ---- a pass that saw more, and did nothing
@@ -179,6 +180,51 @@ asks_tickets v by e (Err fault.JournalSpent) w d = ap (λ u. u.tickets) d.rest
 asks_tickets v by e (Err fault.PassSpent) w d = ap (λ u. u.tickets) d.rest
 asks_tickets v by e (Err fault.Full) w d = ap (λ u. u.tickets) d.rest
 asks_tickets v by e (Err (fault.Memory refused)) w d = ap (λ u. u.tickets) d.rest
+
+-- ---- how much more it is
+
+longer_grows : (v w : View) → IsLonger v w → w.first ≡ v.first → Grows 0 v w
+longer_grows v w l first =
+    let same = ap (λ (ms : List ℕ). length ms) l.mine in record {
+      seen = l.seen;
+      first = first;
+      few = omega arith;
+    }
+
+entered_grows : (v : View) (by : ℕ) (e : Event) (entries : List Entry) (w : View)
+    → Entered v by e entries w → Grows 1 v w
+entered_grows v by e entries w d =
+    let long = ap (λ (ms : List ℕ). length ms) d.mine in record {
+      seen = longer_more v.seen d.before (entry_of by e entries) w.seen d.begins d.seen;
+      first = ap (λ u. u.first) d.rest;
+      few = omega (arith, length-append v.mine (length d.before ∷ []));
+    }
+
+pub calls_grow : (v : View) (by : ℕ) (e : Event) (answer : Result (List Entry) DeskFault)
+    (w : View) → CallsAs v by e answer w → Grows (places_for answer) v w
+calls_grow v by e (Ok entries) w d = entered_grows v by e entries w d.0
+calls_grow v by e (Err fault.Busy) w d =
+    longer_grows v w (met_longer v w d) (ap (λ u. u.first) d.rest)
+calls_grow v by e (Err fault.JournalSpent) w d =
+    longer_grows v w (spent_longer v w d) (ap (λ u. u.first) d.rest)
+calls_grow v by e (Err fault.PassSpent) w d = absurd d
+calls_grow v by e (Err fault.Full) w d = absurd d
+calls_grow v by e (Err (fault.Memory refused)) w d =
+    longer_grows v w (told_longer v w d) (ap (λ u. u.first) d.rest)
+
+pub asks_grow : (v : View) (by : ℕ) (e : Event) (answer : Result Opened DeskFault) (w : View)
+    → AsksAs v by e answer w → Grows (places_for answer) v w
+asks_grow v by e (Ok o) w d = entered_grows v by e o.entries w d.entered
+asks_grow v by e (Err fault.Busy) w d =
+    longer_grows v w (met_longer v w d) (ap (λ u. u.first) d.rest)
+asks_grow v by e (Err fault.JournalSpent) w d =
+    longer_grows v w (spent_longer v w d) (ap (λ u. u.first) d.rest)
+asks_grow v by e (Err fault.PassSpent) w d =
+    longer_grows v w (parts_longer v w d) (ap (λ u. u.first) d.rest)
+asks_grow v by e (Err fault.Full) w d =
+    longer_grows v w (full_longer v w d) (ap (λ u. u.first) d.rest)
+asks_grow v by e (Err (fault.Memory refused)) w d =
+    longer_grows v w (told_longer v w d) (ap (λ u. u.first) d.rest)
 
 -- ---- tickets alone
 

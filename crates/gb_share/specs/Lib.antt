@@ -10,3 +10,4 @@ pub mod Parting
 pub mod Names
 pub mod Alone
 pub mod Picks
+pub mod Uses

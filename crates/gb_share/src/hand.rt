@@ -73,6 +73,7 @@ impl Hand {
     ghost use Rattle.gb_desk.specs.Steps.{goes, stays};
     ghost use Rattle.gb_share.specs.Doing.{IsAlike, IsJoined};
     ghost use Rattle.gb_share.specs.Hands.{knows};
+    ghost use Rattle.gb_share.specs.Uses.{Grows, places_for};
 
     /// A pass that holds no ticket.
     pub fn new(alloc: Global, pass: Pass) -> Hand
@@ -113,6 +114,7 @@ impl Hand {
         requires plain { asks e.now ≡ false }
         ensures own { IsOf desk.now self.new.pass }
         ensures does { DoesAs (knows self.old) by e.now result (knows self.new) }
+        ensures grows { Grows (places_for result) (knows self.old) (knows self.new) }
         ensures parts { (knows self.new).parts ≡ (knows self.old).parts }
         ensures tickets { (knows self.new).tickets ≡ (knows self.old).tickets }
         ensures held { self.new.held ≡ self.old.held }
@@ -128,6 +130,7 @@ impl Hand {
         requires asking { asks e.now ≡ true }
         ensures own { IsOf desk.now self.new.pass }
         ensures does { DoesAs (knows self.old) by e.now result (knows self.new) }
+        ensures grows { Grows (places_for result) (knows self.old) (knows self.new) }
         ensures parts { (knows self.new).parts ≡ (knows self.old).parts }
         ensures few { length (knows self.new).tickets ≤ length (knows self.old).tickets + 1 }
         ensures kept { OnErr result (length (knows self.new).tickets
@@ -199,6 +202,7 @@ impl Hand {
         requires plain { asks e.now ≡ false }
         ensures own { IsOf desk.now self.new.pass }
         ensures does { DoesAs (knows self.old) by e.now result (knows self.new) }
+        ensures grows { Grows (places_for result) (knows self.old) (knows self.new) }
         ensures parts { (knows self.new).parts ≡ (knows self.old).parts }
         ensures few { length (knows self.new).tickets ≤ length (knows self.old).tickets + 1 }
         ensures kept { OnErr result (length (knows self.new).tickets
@@ -224,6 +228,7 @@ impl Hand {
         requires plain { asks e.now ≡ false }
         ensures own { IsOf desk.now self.new.pass }
         ensures does { DoesAs (knows self.old) by e.now result (knows self.new) }
+        ensures grows { Grows (places_for result) (knows self.old) (knows self.new) }
         ensures parts { (knows self.new).parts ≡ (knows self.old).parts }
         ensures few { length (knows self.new).tickets ≤ length (knows self.old).tickets }
         ensures forgets { RenamesAs (without_name name.now) (knows self.old)
@@ -244,6 +249,7 @@ impl Hand {
         requires valid { IsValid e.now }
         ensures own { IsOf desk.now self.new.pass }
         ensures does { DoesAs (knows self.old) by e.now result (knows self.new) }
+        ensures grows { Grows (places_for result) (knows self.old) (knows self.new) }
         ensures parts { (knows self.new).parts ≡ (knows self.old).parts }
         ensures few { length (knows self.new).tickets ≤ length (knows self.old).tickets + 1 }
         ensures kept { OnErr result (length (knows self.new).tickets
@@ -303,6 +309,8 @@ impl Hand {
         ensures own { IsOf desk.now self.new.pass }
         ensures joined { IsJoined (knows self.old) (knows other) (knows self.new) }
         ensures parts { (knows self.new).parts ≡ (knows self.old).parts + (knows other).parts }
+        ensures few { length (knows self.new).tickets
+            ≤ length (knows self.old).tickets + length (knows other).tickets }
     {
         let mut other = other;
         match self.held.append(&mut other.held) {

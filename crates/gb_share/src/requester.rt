@@ -1,7 +1,7 @@
 //! A requester, which runs its lines in order.
 
 ghost use Rattle.std.specs.Prelude.{◌≡◌, ◌≢◌, ◌+◌, ◌<◌, ◌≤◌, [], ◌∷◌, ◌++◌, false, true, OnErr};
-ghost use Rattle.std.specs.Prelude.{IfOk, OnOk, Ok, length};
+ghost use Rattle.std.specs.Prelude.{IfOk, IsErrOf, OnOk, Ok, length};
 ghost use Rattle.std.specs.Arc.{arc_value};
 ghost use Rattle.gb_base.specs.declared.entry.Entry.TheVariants as entry;
 ghost use Rattle.gb_base.specs.declared.refusal.Refusal.TheVariants as why;
@@ -44,6 +44,7 @@ pub fn full_told(alloc: Global) -> Result<Entries, OutOfMemory>
 impl Requester {
     ghost use Rattle.gb_share.specs.Alone.{IsAlone};
     ghost use Rattle.gb_share.specs.Requesters.{Runs};
+    ghost use Rattle.gb_share.specs.Uses.{IsSpent, Uses, lines_left};
 
     /// A requester with its lines of a script, which has run nothing.
     pub fn new(
@@ -95,6 +96,10 @@ impl Requester {
         ensures who { self.new.who ≡ self.old.who }
         ensures lines { self.new.lines ≡ self.old.lines }
         ensures runs { OnOk result (Runs self.old self.new (knows hand.old) (knows hand.new)) }
+        ensures uses { Uses (lines_left self.old) 0 (knows hand.old) (knows hand.new) }
+        ensures left { OnOk result (Uses (lines_left self.old) (lines_left self.new)
+            (knows hand.old) (knows hand.new)) }
+        ensures spent { IsErrOf result ShareStop.Spent → IsSpent (knows hand.new) }
         ensures ran { result ≡ Ok true → length self.new.full ≡ length self.old.full + 1 }
         ensures kept { result ≡ Ok false → (knows hand.old).parts ≢ all_parts }
         ensures alone { IsAlone self.old (knows hand.old) hand.old.held.items
@@ -135,6 +140,10 @@ impl Requester {
         ensures who { self.new.who ≡ self.old.who }
         ensures lines { self.new.lines ≡ self.old.lines }
         ensures runs { OnOk result (Runs self.old self.new (knows hand.old) (knows hand.new)) }
+        ensures uses { Uses (lines_left self.old) 0 (knows hand.old) (knows hand.new) }
+        ensures left { OnOk result (Uses (lines_left self.old) (lines_left self.new)
+            (knows hand.old) (knows hand.new)) }
+        ensures spent { IsErrOf result ShareStop.Spent → IsSpent (knows hand.new) }
         ensures whole { (knows hand.old).parts ≡ all_parts
             → OnOk result (length self.new.full ≡ length self.new.lines) }
         ensures alone { IsAlone self.old (knows hand.old) hand.old.held.items

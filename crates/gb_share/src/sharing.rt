@@ -1,6 +1,6 @@
 //! A run with requesters.
 
-ghost use Rattle.std.specs.Prelude.{◌≡◌, ◌+◌, ◌<◌, [], ◌∷◌, IfOk, OnOk, length};
+ghost use Rattle.std.specs.Prelude.{◌≡◌, ◌+◌, ◌<◌, [], ◌∷◌, IfOk, IsErrOf, OnOk, length};
 ghost use Rattle.gb_desk.specs.Passes.{IsOf};
 ghost use Rattle.gb_desk.specs.Rules.{all_parts};
 ghost use Rattle.gb_desk.specs.declared.view.View.{View};
@@ -11,12 +11,13 @@ ghost use Rattle.gb_share.specs.Lines.{AreValid};
 ghost use Rattle.gb_share.specs.Requesters.{AllValid, AreFresh, AreNumbered, AreSame, AreWhole};
 ghost use Rattle.gb_share.specs.Requesters.{HaveOpened, HaveRun, parts_for};
 ghost use Rattle.gb_share.specs.Shares.{IsShared};
+ghost use Rattle.gb_share.specs.Uses.{HasMost, Uses, all_left, lines_left};
 
 use crate::hand::Hand;
 use crate::requester::Requester;
 use crate::stop::ShareStop;
 use crate::threads::run_all;
-use gb_base::{FreeGate, Gate};
+use gb_base::{FreeGate, Gate, OutOfMemory};
 use gb_desk::{Desk, Journal};
 use gb_system::System;
 use std::alloc::Global;
@@ -39,6 +40,9 @@ fn run_rest(
     ensures ran { OnOk result ((v : View) → HaveRun all.old v (knows hand.old)
         → HaveRun all.new v (knows hand.new)) }
     ensures whole { OnOk result (AreWhole all.new) }
+    ensures uses { Uses (all_left all.old) 0 (knows hand.old) (knows hand.new) }
+    ensures spent { length (knows hand.old).tickets + all_left all.old < all_parts
+        → IsErrOf result ShareStop.Spent → HasMost (knows hand.new) }
 {
     for at in 0..all.len() {
         all[at].run(alloc, desk, hand, &FreeGate)?;
@@ -70,6 +74,9 @@ fn run_lines<R: Threads + Sync, G: Gate>(
     ensures ran { OnOk result (HaveOpened first.new others.new (knows hand.old)
         (knows hand.new)) }
     ensures whole { OnOk result (AreWhole (first.new ∷ others.new)) }
+    ensures uses { Uses (lines_left first.old + all_left others.old) 0 (knows hand.old)
+        (knows hand.new) }
+    ensures spent { IsErrOf result ShareStop.Spent → HasMost (knows hand.new) }
     ensures exact { IsAlone first.old (knows hand.old) hand.old.held.items
         → OnOk result (IsExact first.new (knows hand.new)) }
 {
@@ -79,14 +86,15 @@ fn run_lines<R: Threads + Sync, G: Gate>(
 }
 
 /// Runs the lines of requester 0 alone, and then those of the others at once, each in a thread of
-/// its own with calls of the gate. What they left is run behind all that.
+/// its own with calls of the gate. What they left is run behind all that. Neither the history nor a
+/// pass is ever spent: each line brings one event and one ticket at most.
 pub fn share<R: Threads + Sync, G: Gate>(
     rt: &R,
     alloc: Global,
     first: &mut Requester,
     others: &mut [Requester],
     gate: &G,
-) -> Result<(System, Journal), ShareStop>
+) -> Result<(System, Journal), OutOfMemory>
     requires first { (first.old.who ≡ 0) × (first.old.full ≡ []) }
     requires others { AreNumbered others.old × AreFresh others.old }
     requires valid { AreValid first.old.lines × AllValid others.old }
@@ -99,6 +107,9 @@ pub fn share<R: Threads + Sync, G: Gate>(
     let mut hand = Hand::new(alloc, pass);
     let ran = run_lines(rt, alloc, &desk, &mut hand, first, others, gate);
     let end = hand.close(desk);
-    ran?;
-    Ok(end)
+    match ran {
+        Ok(()) => Ok(end),
+        Err(ShareStop::Memory(refused)) => Err(refused),
+        Err(ShareStop::Spent) => unreachable!(),
+    }
 }

@@ -12,7 +12,6 @@ use crate::merging::Merging;
 use crate::parting::requesters;
 use crate::requester::Requester;
 use crate::sharing::share;
-use crate::stop::ShareStop;
 use gb_base::{Asked, Gate, OutOfMemory, Sequence};
 use gb_desk::Journal;
 use gb_system::System;
@@ -25,7 +24,7 @@ fn share_all<R: Threads + Sync, G: Gate>(
     alloc: Global,
     all: &mut [Requester],
     gate: &G,
-) -> Result<(System, Journal), ShareStop>
+) -> Result<(System, Journal), OutOfMemory>
     requires { AreReadyToRun all.old }
     ensures same { AreSame all.old all.new }
     ensures shared { IfOk result (λ r. IsShared all.new r.0 r.1) }
@@ -65,7 +64,7 @@ pub fn shared_text<R: Threads + Sync, G: Gate>(
     asked: Sequence<Asked>,
     hex: bool,
     gate: &G,
-) -> Result<String, ShareStop>
+) -> Result<String, OutOfMemory>
     requires valid { AreValid asked }
     requires few { length asked ≤ 1048577 }
     ensures { IfOk result (λ text. IsTold hex asked (string_bytes text)) }

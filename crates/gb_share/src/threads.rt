@@ -1,6 +1,6 @@
 //! Requesters in threads of their own.
 
-ghost use Rattle.std.specs.Prelude.{◌≡◌, ◌+◌, ◌<◌, [], OnOk, length};
+ghost use Rattle.std.specs.Prelude.{◌≡◌, ◌+◌, ◌<◌, ◌⊎◌, [], IsErrOf, OnOk, length};
 ghost use Rattle.std.specs.Thread.{IsSync};
 ghost use Rattle.gb_desk.specs.Passes.{IsOf};
 ghost use Rattle.gb_share.specs.Doing.{HasNone};
@@ -8,6 +8,7 @@ ghost use Rattle.gb_share.specs.Hands.{knows};
 ghost use Rattle.gb_share.specs.Lines.{AreValid};
 ghost use Rattle.gb_share.specs.Requesters.{AllValid, AreFresh, AreNumbered, AreSame, HaveRun};
 ghost use Rattle.gb_share.specs.Requesters.{Runs, parts_for};
+ghost use Rattle.gb_share.specs.Uses.{HasMost, IsSpent, Uses, all_left, lines_left};
 
 use crate::hand::Hand;
 use crate::requester::Requester;
@@ -37,6 +38,10 @@ pub fn run_all<R: Threads + Sync, G: Gate>(
     ensures parts { (knows hand.new).parts ≡ (knows hand.old).parts }
     ensures same { AreSame all.old all.new }
     ensures ran { OnOk result (HaveRun all.new (knows hand.old) (knows hand.new)) }
+    ensures uses { Uses (all_left all.old) 0 (knows hand.old) (knows hand.new) }
+    ensures left { OnOk result (Uses (all_left all.old) (all_left all.new) (knows hand.old)
+        (knows hand.new)) }
+    ensures spent { IsErrOf result ShareStop.Spent → HasMost (knows hand.new) }
 {
     let Some((last, others)) = all.split_last_mut() else {
         return Ok(());
@@ -76,6 +81,14 @@ fn both<R: Threads + Sync, G: Gate>(
     ensures lines { last.new.lines ≡ last.old.lines }
     ensures last { OnOk result (Runs last.old last.new (knows own.old) (knows own.new)) }
     ensures others { OnOk result (HaveRun others.new (knows hand.old) (knows hand.new)) }
+    ensures uses { Uses (all_left others.old) 0 (knows hand.old) (knows hand.new) }
+    ensures uses_own { Uses (lines_left last.old) 0 (knows own.old) (knows own.new) }
+    ensures left { OnOk result (Uses (all_left others.old) (all_left others.new) (knows hand.old)
+        (knows hand.new)) }
+    ensures left_own { OnOk result (Uses (lines_left last.old) (lines_left last.new)
+        (knows own.old) (knows own.new)) }
+    ensures spent { IsErrOf result ShareStop.Spent
+        → IsSpent (knows own.new) ⊎ HasMost (knows hand.new) }
 {
     let mut alone = || -> Result<(), ShareStop>
         requires { IsSync G.row × IsOf desk.now own.now.pass
@@ -85,7 +98,11 @@ fn both<R: Threads + Sync, G: Gate>(
             × (last.exit.now.who ≡ last.entry.now.who)
             × (last.exit.now.lines ≡ last.entry.now.lines)
             × OnOk result (Runs last.entry.now last.exit.now (knows own.entry.now)
-            (knows own.exit.now)) }
+            (knows own.exit.now))
+            × Uses (lines_left last.entry.now) 0 (knows own.entry.now) (knows own.exit.now)
+            × OnOk result (Uses (lines_left last.entry.now) (lines_left last.exit.now)
+            (knows own.entry.now) (knows own.exit.now))
+            × (IsErrOf result ShareStop.Spent → IsSpent (knows own.exit.now)) }
     { last.run(alloc, desk, own, gate) };
     let mut beside = || -> Result<(), ShareStop>
         requires { IsSync R.row × IsSync G.row × IsOf desk.now hand.now.pass
@@ -97,7 +114,11 @@ fn both<R: Threads + Sync, G: Gate>(
             × ((knows hand.exit.now).parts ≡ (knows hand.entry.now).parts)
             × AreSame others.entry.now others.exit.now
             × OnOk result (HaveRun others.exit.now (knows hand.entry.now)
-            (knows hand.exit.now)) }
+            (knows hand.exit.now))
+            × Uses (all_left others.entry.now) 0 (knows hand.entry.now) (knows hand.exit.now)
+            × OnOk result (Uses (all_left others.entry.now) (all_left others.exit.now)
+            (knows hand.entry.now) (knows hand.exit.now))
+            × (IsErrOf result ShareStop.Spent → HasMost (knows hand.exit.now)) }
     { run_all(rt, alloc, desk, hand, gate, others) };
     let (ran, others_ran) = join_mut(rt, &mut alone, &mut beside);
     ran?;

@@ -7,6 +7,7 @@ ghost use Rattle.gb_formats.specs.ValidEvents.{IsValid};
 ghost use Rattle.gb_share.specs.Doing.{DoesAs};
 ghost use Rattle.gb_share.specs.Hands.{knows};
 ghost use Rattle.gb_share.specs.Names.{FollowsAs};
+ghost use Rattle.gb_share.specs.Uses.{Grows, places_for};
 
 use crate::hand::Hand;
 use gb_base::{Entries, Event};
@@ -51,6 +52,7 @@ pub fn tried(hand: &mut Hand, desk: &Desk, by: u8, e: &Event) -> Result<Entries,
     requires valid { IsValid e.now }
     ensures own { IsOf desk.now hand.new.pass }
     ensures does { DoesAs (knows hand.old) by e.now result (knows hand.new) }
+    ensures grows { Grows (places_for result) (knows hand.old) (knows hand.new) }
     ensures parts { (knows hand.new).parts ≡ (knows hand.old).parts }
     ensures few { length (knows hand.new).tickets ≤ length (knows hand.old).tickets + 1 }
     ensures kept { OnErr result (length (knows hand.new).tickets

@@ -8,5 +8,4 @@ pub mod Runs
 pub mod Sessions
 pub mod Stages
 pub mod Statuses
-pub mod Stops
 pub mod Writing

@@ -29,7 +29,6 @@ abbrev pub ReadsAll : Option (List ℕ) → Option (List ℕ) → ℕ → ℕ �
 ReadsAll left after before faults (Ok (input.Whole bytes)) = IsWhole left after bytes.items
 ReadsAll left after before faults (Ok (input.TooLong front)) = IsLong left after front.items
 ReadsAll left after before faults (Err stop.Failed) = Rose before faults
-ReadsAll left after before faults (Err stop.Spent) = ⊥
 ReadsAll left after before faults (Err (stop.Memory refused)) = ⊤
 
 -- the bytes that were read and kept

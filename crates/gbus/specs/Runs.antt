@@ -236,5 +236,4 @@ IsAnswerOf j left a =
 abbrev pub FailsAs : ℕ → ℕ → Result Answer InputStop → Type 0
 FailsAs before faults (Ok a) = ⊤
 FailsAs before faults (Err stop.Failed) = Rose before faults
-FailsAs before faults (Err stop.Spent) = ⊤
 FailsAs before faults (Err (stop.Memory refused)) = ⊤

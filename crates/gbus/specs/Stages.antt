@@ -2,6 +2,7 @@
 use Rattle.std.specs.Prelude.{◌≡◌, ◌<◌, ℕ, Option, Some, None, Result, Ok, Err}
 use Rattle.std.specs.Prelude.{List, [], ◌∷◌, ◌++◌, length, IfSome}
 use Rattle.std.specs.Io.KnownBytes.{Appends}
+use Rattle.gb_base.specs.declared.errors.OutOfMemory.{OutOfMemory}
 use Rattle.gb_base.specs.declared.sink.WriteStop.{WriteStop}
 use Rattle.gb_base.specs.declared.sink.WriteStop.TheVariants as stop
 use Rattle.gb_base.specs.declared.status.Status.{Status}
@@ -13,7 +14,6 @@ use Rattle.gbus.specs.Runs.{IsFrontOfOutput, LinesEnd, ReadsTo, StopsAs}
 use Rattle.gbus.specs.Sessions.{Begins, IsBehind, ending_of, lines_taken}
 use Rattle.gbus.specs.declared.line_worker.LineWorker.{LineWorker}
 use Rattle.gbus.specs.declared.session.Session.{Session}
-use Rattle.gbus.specs.declared.status.RunStop.{RunStop}
 
 -- This text is what is written of the earlier lines and a front of what is written of this line,
 -- but not all. At most 4,096 bytes behind it were read.
@@ -77,14 +77,15 @@ pub record IsLeft (x : Session) (j : LineJob) (left left_after taken after : Opt
 
 -- By cases on the answer: it goes on, or is to end.
 abbrev pub TurnsOut : LineWorker → LineJob → (left left_after taken after : Option (List ℕ))
-    → Option (Result Status RunStop) → Type 0
+    → Option (Result Status OutOfMemory) → Type 0
 TurnsOut x j left left_after taken after None = Stage x j left left_after taken after
 TurnsOut x j left left_after taken after (Some e) =
     IsAtLast x j left left_after taken after (status_of e)
 
 -- By cases on the answer: it goes on, or ended.
 abbrev pub WritesOn : {A : Type 0} → LineWorker → LineJob
-    → (left left_after taken after : Option (List ℕ)) → Result A (Result Status RunStop) → Type 0
+    → (left left_after taken after : Option (List ℕ)) → Result A (Result Status OutOfMemory)
+    → Type 0
 WritesOn x j left left_after taken after (Ok y) = Stage x j left left_after taken after
 WritesOn x j left left_after taken after (Err e) =
     LinesEnd j left left_after taken after (status_of e) × IsFrontOfOutput j left taken after

@@ -5,7 +5,6 @@ ghost use Rattle.gbus.specs.Reading.{IsRead, ReadsAll, kept_of};
 ghost use Rattle.gbus.specs.Runs.{StopsAtLimit};
 
 use gb_base::{Failed, OutOfMemory, Source};
-use gb_share::ShareStop;
 use std::alloc::Global;
 
 /// How many bytes an input may have.
@@ -28,8 +27,6 @@ pub enum Input {
 pub enum InputStop {
     /// The source failed.
     Failed,
-    /// `share` used up a history, or the parts of a pass.
-    Spent,
     /// No memory was found.
     Memory(OutOfMemory),
 }
@@ -42,19 +39,6 @@ impl From<Failed> for InputStop {
 
     fn from(_failed: Failed) -> InputStop {
         InputStop::Failed
-    }
-}
-
-impl From<ShareStop> for InputStop {
-    ghost use Rattle.gbus.specs.Stops.{IsNoFault};
-
-    ghost from_gives = { λ _ e. IsNoFault e };
-
-    fn from(stop: ShareStop) -> InputStop {
-        match stop {
-            ShareStop::Spent => InputStop::Spent,
-            ShareStop::Memory(refused) => InputStop::Memory(refused),
-        }
     }
 }
 

@@ -13,7 +13,7 @@ ghost use Rattle.gbus.specs.Stages.{fault_status};
 use crate::gathered::Gathered;
 use crate::output::write_all;
 use crate::session::Session;
-use crate::status::{Ended, RunStop};
+use crate::status::Ended;
 use crate::words::LineJob;
 use gb_base::{OutOfMemory, Sink, Source, Status, WriteStop};
 use gb_capture::Turn;
@@ -90,7 +90,7 @@ impl LineWorker {
             Ok(true) => self.take_line(),
             Ok(false) => match self.session.close() {
                 Ok(()) => Some(Ok(Status::Success)),
-                Err(refused) => Some(Err(RunStop::Memory(refused))),
+                Err(refused) => Some(Err(refused)),
             },
             Err(LineStop::ReadFault) => Some(Ok(Status::ReadFault)),
             Err(LineStop::TooLong) => Some(Ok(Status::TooLong)),
@@ -112,10 +112,10 @@ impl LineWorker {
     {
         let turn = match self.session.take(self.reader.line()) {
             Ok(turn) => turn,
-            Err(refused) => return Some(Err(RunStop::Memory(refused))),
+            Err(refused) => return Some(Err(refused)),
         };
         if let Err(refused) = self.gathered.add(self.session.text()) {
-            return Some(Err(RunStop::Memory(refused)));
+            return Some(Err(refused));
         }
         match turn {
             Turn::Next => None,
@@ -187,7 +187,7 @@ fn ended_at(stop: WriteStop) -> Ended
 {
     match stop {
         WriteStop::Failed => Ok(Status::WriteFault),
-        WriteStop::Memory(refused) => Err(RunStop::Memory(refused)),
+        WriteStop::Memory(refused) => Err(refused),
     }
 }
 
@@ -210,7 +210,7 @@ pub fn work_by_line<S: Source, K: Sink>(
 {
     let mut worker = match LineWorker::new(alloc, job) {
         Ok(worker) => worker,
-        Err(refused) => return Err(RunStop::Memory(refused)),
+        Err(refused) => return Err(refused),
     };
     loop {
         if let Err(ended) = worker.write_before_read(sink) {

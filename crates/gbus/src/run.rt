@@ -12,7 +12,7 @@ use crate::answer::answer_for;
 use crate::input::InputStop;
 use crate::line_worker::work_by_line;
 use crate::output::write_all;
-use crate::status::{RunStop, status_of};
+use crate::status::status_of;
 use crate::words::{Job, job_of};
 use gb_base::{Gate, Sink, Source, Status, WriteStop};
 use std::alloc::Global;
@@ -104,12 +104,11 @@ pub fn run<R: Threads + Sync, S: Source, K: Sink, G: Gate>(
     let answer = match answer_for(rt, alloc, task, source, gate) {
         Ok(answer) => answer,
         Err(InputStop::Failed) => return Status::ReadFault,
-        Err(InputStop::Spent) => return status_of(Err(RunStop::Spent)),
-        Err(InputStop::Memory(refused)) => return status_of(Err(RunStop::Memory(refused))),
+        Err(InputStop::Memory(refused)) => return status_of(Err(refused)),
     };
     match write_all(sink, answer.output.items()) {
         Ok(()) => answer.status,
         Err(WriteStop::Failed) => Status::WriteFault,
-        Err(WriteStop::Memory(refused)) => status_of(Err(RunStop::Memory(refused))),
+        Err(WriteStop::Memory(refused)) => status_of(Err(refused)),
     }
 }

@@ -10,10 +10,10 @@ ghost use Rattle.gbus.specs.Reading.{kept_of};
 
 use crate::answer::{Answer, Output};
 use crate::input::Input;
-use gb_base::{Gate, LineReason, Parts, Status};
+use gb_base::{Gate, LineReason, OutOfMemory, Parts, Status};
 use gb_report::append_refusal;
 use gb_script::parts;
-use gb_share::{ShareStop, shared_text};
+use gb_share::shared_text;
 use std::alloc::Global;
 use std::thread::Threads;
 
@@ -25,7 +25,7 @@ pub fn share_input<R: Threads + Sync, G: Gate>(
     input: &Input,
     hex: bool,
     gate: &G,
-) -> Result<Answer, ShareStop>
+) -> Result<Answer, OutOfMemory>
     requires short { length (kept_of input.now) ≤ 1048576 }
     ensures text { IfOk result (λ a. SharesInput hex input.now (bytes_in a.output)) }
     ensures status { IfOk result (λ a. a.status ≡ shared_status input.now) }
@@ -52,7 +52,7 @@ fn share<R: Threads + Sync, G: Gate>(
     too_long: bool,
     hex: bool,
     gate: &G,
-) -> Result<Answer, ShareStop>
+) -> Result<Answer, OutOfMemory>
     requires short { length text.now ≤ longest_input }
     ensures text { IfOk result (λ a. Shares hex (parts text.now) too_long (bytes_in a.output)) }
     ensures status { IfOk result (λ a.
@@ -76,7 +76,7 @@ fn share<R: Threads + Sync, G: Gate>(
 }
 
 /// The line that names a bad line is written, and the input is refused.
-fn refusal(alloc: Global, line: u32, why: &LineReason) -> Result<Answer, ShareStop>
+fn refusal(alloc: Global, line: u32, why: &LineReason) -> Result<Answer, OutOfMemory>
     ensures text { IfOk result (λ a. bytes_in a.output ≡ refusal_line_text line why.now) }
     ensures status { IfOk result (λ a. a.status ≡ Status.Refused) }
 {

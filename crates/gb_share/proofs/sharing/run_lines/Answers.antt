@@ -1,9 +1,10 @@
-use Rattle.std.proofs.Common.{ap, ◌∙◌}
+use Rattle.std.proofs.Common.{ap, arith, ◌∙◌}
 use Rattle.gb_share.proofs.AloneEnds.{alone_later}
 use Rattle.gb_share.proofs.BehindFull.{fresh_marks}
 use Rattle.gb_share.proofs.Rests.{numbered_same, valid_same, whole_first}
-use Rattle.gb_share.proofs.Results.{on_ok_then}
+use Rattle.gb_share.proofs.Results.{err_same, on_ok_then}
 use Rattle.gb_share.proofs.Teams.{opening_ran}
+use Rattle.gb_share.proofs.Using.{first_room, rest_room, room_most, uses_both, uses_less, uses_more}
 use Rattle.gb_share.proofs.sharing.run_lines.Goals as goal
 use Rattle.gb_share.specs.Doing.{done_by}
 use Rattle.gb_share.specs.Hands.{knows}
@@ -45,3 +46,28 @@ returns-clause-whole g c =
     (λ whole. whole_first c.run.new.self c.run_rest.new.all
     (c.in_ok-run.ensures.whole c.requires.all) whole)
     c.run_rest.ensures.whole
+
+pub returns-in_err-run-clause-uses : goal.returns-in_err-run-clause-uses
+returns-in_err-run-clause-uses g c =
+    uses_less _ _ _ _ _ _ (omega arith) (omega arith) c.run.ensures.uses
+
+pub returns-in_err-run_all-clause-uses : goal.returns-in_err-run_all-clause-uses
+returns-in_err-run_all-clause-uses g c =
+    uses_both _ _ _ _ _ _ c.in_ok-run.ensures.left c.run_all.ensures.uses
+
+pub returns-clause-uses : goal.returns-clause-uses
+returns-clause-uses g c =
+    uses_both _ _ _ _ _ _ c.in_ok-run.ensures.left
+    (uses_more _ _ _ _ _ _ c.in_ok-run_all.ensures.left c.run_rest.ensures.uses)
+
+pub returns-in_err-run-clause-spent : goal.returns-in_err-run-clause-spent
+returns-in_err-run-clause-spent g c is =
+    room_most _ _ (knows c.args.hand.now) _ (c.run.ensures.parts ∙ c.requires.all)
+    (first_room c.args.first.now c.args.others.now _ c.requires.none.1 c.requires.few)
+    c.run.ensures.uses (c.in_err-run.ensures.spent (err_same _ _ _ c.from_residual.ensures.1 is))
+
+pub returns-clause-spent : goal.returns-clause-spent
+returns-clause-spent g c is =
+    c.run_rest.ensures.spent
+    (rest_room _ _ c.args.first.now c.args.others.now _ _ _ c.requires.none.1 c.requires.few
+    c.in_ok-run.ensures.left c.in_ok-run_all.ensures.left) is

@@ -2,6 +2,7 @@ use Rattle.std.proofs.Common.{◌∷◌, ap, ◌∙◌}
 use Rattle.gb_desk.specs.Passes.{known}
 use Rattle.gb_share.proofs.AloneEnds.{alone_first}
 use Rattle.gb_share.proofs.Closings.{shared_end}
+use Rattle.gb_share.proofs.Using.{never_most}
 use Rattle.gb_share.proofs.Rests.{numbered_same, same_first, valid_first, valid_same}
 use Rattle.gb_share.proofs.sharing.share.Goals as goal
 
@@ -21,3 +22,10 @@ returns-clause-shared g c =
     (c.in_ok-ran.ensures.exact (alone_first c.args.first.now _ _ c.in_ok-system.system
     c.requires.first.1 (ap known c.new-hand.ensures.pass ∙ c.in_ok-desk.ensures.first)
     c.new-hand.ensures.held))
+
+pub unreachable-in-Err-Spent : goal.unreachable-in-Err-Spent
+unreachable-in-Err-Spent g c =
+    never_most c.args.first.now c.args.others.now _ _ c.in_ok-system.system _ _ c.requires.few
+    (ap known c.new-hand.ensures.pass ∙ c.in_ok-desk.ensures.first) c.in_ok-system.ensures.taken
+    c.run_lines-ran.ensures.uses c.close-end.ensures
+    (c.run_lines-ran.ensures.spent c.in-Err-Spent.is)

@@ -1,10 +1,11 @@
-use Rattle.std.proofs.Common.{length, subst, sym, ◌+◌, ◌<◌, ◌∙◌, ap, ℕ}
+use Rattle.std.proofs.Common.{arith, length, subst, sym, ◌+◌, ◌<◌, ◌∙◌, ap, ℕ}
 use Rattle.gb_desk.specs.Steps.{goes, stays}
 use Rattle.gb_desk.specs.declared.view.View.{View}
 use Rattle.gb_share.proofs.Rests.{numbered_same, same_length}
 use Rattle.gb_share.proofs.Marked.{both_have}
 use Rattle.gb_share.proofs.Teams.{front_get, last_get, room_for}
-use Rattle.gb_share.proofs.Results.{on_ok}
+use Rattle.gb_share.proofs.Results.{err_same, on_ok}
+use Rattle.gb_share.proofs.Using.{left_beside, most_joined, uses_beside, uses_idle}
 use Rattle.gb_share.proofs.threads.+together.Goals as goal
 use Rattle.gb_share.specs.Hands.{knows}
 use Rattle.gb_share.specs.Requesters.{HaveRun, Runs, parts_for}
@@ -62,3 +63,43 @@ run_all-returns-clause-ran g t c =
     (numbered_same c.in-Some.others.now c.both-ran.new.others c.both-ran.ensures.same
     (λ n x at. c.requires.numbered n x (front_get _ _ _ c.in-Some.ensures.cases.0 n x at)))
     c.join-joined.ensures.joined
+
+pub run_all-returns-in_default-clause-uses : goal.run_all-returns-in_default-clause-uses
+run_all-returns-in_default-clause-uses g t c =
+    uses_idle _ _
+
+pub run_all-returns-in_err-ran-clause-uses : goal.run_all-returns-in_err-ran-clause-uses
+run_all-returns-in_err-ran-clause-uses g t c =
+    uses_beside _ _ _ c.parts.result 0 0 (knows c.args.hand.now) _ _ _ _ _
+    c.in-Some.ensures.cases.0 c.split-own.ensures.stays c.split-own.ensures.goes
+    c.both-ran.ensures.uses c.both-ran.ensures.uses_own c.join-joined.ensures.joined
+    c.join-joined.ensures.few
+
+pub run_all-returns-in_err-joined-clause-uses : goal.run_all-returns-in_err-joined-clause-uses
+run_all-returns-in_err-joined-clause-uses g t c =
+    uses_beside _ _ _ c.parts.result 0 0 (knows c.args.hand.now) _ _ _ _ _
+    c.in-Some.ensures.cases.0 c.split-own.ensures.stays c.split-own.ensures.goes
+    c.both-ran.ensures.uses c.both-ran.ensures.uses_own c.join-joined.ensures.joined
+    c.join-joined.ensures.few
+
+pub run_all-returns-clause-uses : goal.run_all-returns-clause-uses
+run_all-returns-clause-uses g t c =
+    uses_beside _ _ _ c.parts.result 0 0 (knows c.args.hand.now) _ _ _ _ _
+    c.in-Some.ensures.cases.0 c.split-own.ensures.stays c.split-own.ensures.goes
+    c.both-ran.ensures.uses c.both-ran.ensures.uses_own c.join-joined.ensures.joined
+    c.join-joined.ensures.few
+
+pub run_all-returns-clause-left : goal.run_all-returns-clause-left
+run_all-returns-clause-left g t c =
+    left_beside _ _ c.both-ran.new.others _ c.both-ran.new.last c.parts.result
+    (knows c.args.hand.now) _ _ _ _ _ c.in-Some.ensures.cases.0
+    c.split-own.ensures.stays c.split-own.ensures.goes c.in_ok-ran.ensures.left
+    c.in_ok-ran.ensures.left_own c.join-joined.ensures.joined c.join-joined.ensures.few
+
+pub run_all-returns-in_err-ran-clause-spent : goal.run_all-returns-in_err-ran-clause-spent
+run_all-returns-in_err-ran-clause-spent g t c is =
+    most_joined c.in-Some.last.now c.parts.result _ (knows c.args.hand.now) _ _ _ _ _
+    c.split-own.ensures.stays c.split-own.ensures.goes c.both-ran.ensures.uses
+    c.both-ran.ensures.uses_own c.both-ran.ensures.parts.1 c.parts.ensures
+    c.join-joined.ensures.joined
+    (c.in_err-ran.ensures.spent (err_same _ _ _ c.from_residual.ensures.1 is))

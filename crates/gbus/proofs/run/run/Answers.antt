@@ -247,18 +247,3 @@ returns-in-ByLine-clause-untouched g c = λ e.
 
 pub returns-in_default-clause-limit : goal.returns-in_default-clause-limit
 returns-in_default-clause-limit g c = nothing-read (g.S.Source.left c.args.source.now)
-
-pub returns-in-Err-Spent-clause-traced : goal.returns-in-Err-Spent-clause-traced
-returns-in-Err-Spent-clause-traced g c = of_run _
-
-pub returns-in-Err-Spent-clause-headline : goal.returns-in-Err-Spent-clause-headline
-returns-in-Err-Spent-clause-headline g c = keeps_headline _
-
-pub returns-in-Err-Spent-clause-kept : goal.returns-in-Err-Spent-clause-kept
-returns-in-Err-Spent-clause-kept g c = λ r.
-    c.answer_for.ensures.kept
-    (ap reads (sym (ap (λ j. Some (job_seen j)) c.in-Task.is)
-    ∙ sym (ap (option_map job_seen) c.in-Some.is) ∙ c.job_of.ensures.job) ∙ r)
-
-pub returns-in-Err-Spent-clause-prefix : goal.returns-in-Err-Spent-clause-prefix
-returns-in-Err-Spent-clause-prefix g c = unwritten _ _ _

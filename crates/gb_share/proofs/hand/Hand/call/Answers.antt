@@ -1,5 +1,5 @@
 use Rattle.std.proofs.Common.{subst, sym}
-use Rattle.gb_share.proofs.Views.{calls_does, calls_within}
+use Rattle.gb_share.proofs.Views.{calls_does, calls_grow, calls_within}
 use Rattle.gb_share.proofs.hand.Hand.call.Goals as goal
 use Rattle.gb_share.specs.Tickets.{AreHeld}
 
@@ -12,3 +12,6 @@ invariant_of-self c = record {
 
 pub returns-clause-does : goal.returns-clause-does
 returns-clause-does c = calls_does _ _ _ _ _ c.args.self.now.within c.call.ensures.calls
+
+pub returns-clause-grows : goal.returns-clause-grows
+returns-clause-grows c = calls_grow _ _ _ _ _ c.call.ensures.calls

@@ -1,6 +1,7 @@
-use Rattle.std.proofs.Common.{refl}
+use Rattle.std.proofs.Common.{inl, inr, refl}
 use Rattle.gb_share.proofs.Alones.{alone_done, alone_full}
 use Rattle.gb_share.proofs.Marks.{done_runs, full_runs, kept_runs, read_there}
+use Rattle.gb_share.proofs.Using.{kept_uses, next_uses, ran_uses}
 use Rattle.gb_share.proofs.requester.Requester.next.Goals as goal
 
 pub returns-in_ok-note-in-Ok-clause-runs : goal.returns-in_ok-note-in-Ok-clause-runs
@@ -56,3 +57,29 @@ pub returns-in-Err-Busy-clause-alone : goal.returns-in-Err-Busy-clause-alone
 returns-in-Err-Busy-clause-alone c a =
     let does = rw c.in-Err-Busy.field-0-is at c.in-Err-Busy.ensures.does in
     absurd (does.1 a.parts)
+
+pub returns-in_ok-note-in-Ok-clause-left : goal.returns-in_ok-note-in-Ok-clause-left
+returns-in_ok-note-in-Ok-clause-left c =
+    ran_uses c.args.self.now c.note.new.self _ c.tried.result _ _ c.requires.left
+    c.in_ok-note-in-Ok.ensures.lines c.in_ok-note-in-Ok.ensures.noted c.tried.ensures.grows
+    c.tried.ensures.few
+
+pub returns-in_ok-note-in-Err-Full-clause-left : goal.returns-in_ok-note-in-Err-Full-clause-left
+returns-in_ok-note-in-Err-Full-clause-left c =
+    ran_uses c.args.self.now c.note-in-Err-Full.new.self _ c.tried.result _ _ c.requires.left
+    c.in_ok-note-in-Err-Full.ensures.lines c.in_ok-note-in-Err-Full.ensures.noted
+    c.tried.ensures.grows c.tried.ensures.few
+
+pub returns-in-Err-Busy-clause-left : goal.returns-in-Err-Busy-clause-left
+returns-in-Err-Busy-clause-left c =
+    kept_uses c.args.self.now _ _ c.in-Err-Busy.ensures.grows c.in-Err-Busy.ensures.kept
+
+pub returns-in-Err-JournalSpent-clause-spent : goal.returns-in-Err-JournalSpent-clause-spent
+returns-in-Err-JournalSpent-clause-spent c is =
+    let does = rw c.in-Err-JournalSpent.field-0-is at c.in-Err-JournalSpent.ensures.does in
+    inl does
+
+pub returns-in-Err-PassSpent-clause-spent : goal.returns-in-Err-PassSpent-clause-spent
+returns-in-Err-PassSpent-clause-spent c is =
+    let does = rw c.in-Err-PassSpent.field-0-is at c.in-Err-PassSpent.ensures.does in
+    inr does
