@@ -83,8 +83,8 @@ pub fn run<R: Threads + Sync, S: Source, K: Sink, G: Gate>(
         (S.faults source.old) (S.faults source.new) (K.faults sink.old) (K.faults sink.new) result }
 
     // The report of a script is the text of the trace of its events, a run of valid ones, so that
-    // each law of runs speaks of it. So it is of the summary of a made script. With `share` the
-    // events are valid in every order of the lines.
+    // each law of runs speaks of it. So it is of the summary of a made script, and with `share` of
+    // the lines in every order.
     ensures traced { IsOfRun (job_of (map string_bytes words.now)) }
 
     // Of these events, whatever the script is and in whichever order `share` runs its lines: on
