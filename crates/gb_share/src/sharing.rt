@@ -85,6 +85,16 @@ fn run_lines<R: Threads + Sync, G: Gate>(
     run_rest(alloc, desk, hand, others)
 }
 
+/// What was refused, where nothing is spent.
+fn refused_by(why: ShareStop) -> OutOfMemory
+    requires unspent { why ≡ ShareStop.Spent → ⊥ }
+{
+    match why {
+        ShareStop::Memory(refused) => refused,
+        ShareStop::Spent => unreachable!(),
+    }
+}
+
 /// Runs the lines of requester 0 alone, and then those of the others at once, each in a thread of
 /// its own with calls of the gate. What they left is run behind all that. Neither the history nor a
 /// pass is ever spent: each line brings one event and one ticket at most.
@@ -109,7 +119,6 @@ pub fn share<R: Threads + Sync, G: Gate>(
     let end = hand.close(desk);
     match ran {
         Ok(()) => Ok(end),
-        Err(ShareStop::Memory(refused)) => Err(refused),
-        Err(ShareStop::Spent) => unreachable!(),
+        Err(why) => Err(refused_by(why)),
     }
 }

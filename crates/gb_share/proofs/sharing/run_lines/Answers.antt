@@ -62,8 +62,10 @@ returns-clause-uses g c =
 
 pub returns-in_err-run-clause-spent : goal.returns-in_err-run-clause-spent
 returns-in_err-run-clause-spent g c is =
-    room_most _ _ (knows c.args.hand.now) _ (c.run.ensures.parts ∙ c.requires.all)
-    (first_room c.args.first.now c.args.others.now _ c.requires.none.1 c.requires.few)
+    room_most _ _ (knows c.args.hand.now) (knows c.run.new.hand)
+    (c.run.ensures.parts ∙ c.requires.all)
+    (first_room c.args.first.now c.args.others.now (knows c.args.hand.now) c.requires.none.1
+    c.requires.few)
     c.run.ensures.uses (c.in_err-run.ensures.spent (err_same _ _ _ c.from_residual.ensures.1 is))
 
 pub returns-clause-spent : goal.returns-clause-spent

@@ -1,10 +1,10 @@
-use Rattle.std.proofs.Common.{arith, length, subst, sym, ◌+◌, ◌<◌, ◌∙◌, ap, ℕ}
+use Rattle.std.proofs.Common.{length, subst, sym, ◌+◌, ◌<◌, ◌∙◌, ap, ℕ}
 use Rattle.gb_desk.specs.Steps.{goes, stays}
 use Rattle.gb_desk.specs.declared.view.View.{View}
 use Rattle.gb_share.proofs.Rests.{numbered_same, same_length}
 use Rattle.gb_share.proofs.Marked.{both_have}
 use Rattle.gb_share.proofs.Teams.{front_get, last_get, room_for}
-use Rattle.gb_share.proofs.Results.{err_same, on_ok}
+use Rattle.gb_share.proofs.Results.{err_same}
 use Rattle.gb_share.proofs.Using.{left_beside, most_joined, uses_beside, uses_idle}
 use Rattle.gb_share.proofs.threads.+together.Goals as goal
 use Rattle.gb_share.specs.Hands.{knows}

@@ -1,7 +1,7 @@
 use Rattle.std.proofs.Common.{inl, inr, refl}
 use Rattle.gb_share.proofs.Alones.{alone_done, alone_full}
 use Rattle.gb_share.proofs.Marks.{done_runs, full_runs, kept_runs, read_there}
-use Rattle.gb_share.proofs.Using.{kept_uses, next_uses, ran_uses}
+use Rattle.gb_share.proofs.Using.{kept_uses, ran_uses}
 use Rattle.gb_share.proofs.requester.Requester.next.Goals as goal
 
 pub returns-in_ok-note-in-Ok-clause-runs : goal.returns-in_ok-note-in-Ok-clause-runs

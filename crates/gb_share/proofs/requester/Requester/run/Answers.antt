@@ -1,6 +1,6 @@
 use Rattle.std.proofs.Common.{arith, ◌∙◌}
 use Rattle.gb_share.proofs.Teams.{runs_more}
-use Rattle.gb_share.proofs.Using.{uses_less, uses_more, uses_none}
+use Rattle.gb_share.proofs.Using.{uses_less, uses_more}
 use Rattle.gb_share.proofs.requester.Requester.run.Goals as goal
 
 pub returns-then-not-branch-clause-runs : goal.returns-then-not-branch-clause-runs
