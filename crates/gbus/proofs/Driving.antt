@@ -1,6 +1,6 @@
 -- Running a made script comes to what the machine does.
 use Rattle.std.proofs.Common.{◌≡◌, ◌≤◌, ℕ, zero, suc, ◌+◌, Bool, true, false, cond, List}
-use Rattle.std.proofs.Common.{subst, ap, ◌∙◌, arith}
+use Rattle.std.proofs.Common.{refl, subst, ap, ◌∙◌, arith}
 use Rattle.gb_formats.proofs.MadeValid.{made-valid}
 use Rattle.gb_formats.specs.Made.{made}
 use Rattle.gb_machine.specs.Actions.{Told}
@@ -48,6 +48,18 @@ pub record Stage (x : Driven) (seed k left : ℕ) (state : State) : Type 0 where
       ≡ refused_in (trace (made_events seed))
   pub ends : last_state state (ahead seed k left state)
       ≡ last_state first_state (trace (made_events seed))
+
+-- Before the first event all are left.
+pub first-stage : (x : Driven) (seed : ℕ) → system.Stands x.system first_state → x.refused ≡ 0
+    → Stage x seed 1 20024 first_state
+first-stage x seed stands none = record {
+  stands = stands;
+  refused = counted x.refused (refused_in (ahead seed 1 20024 first_state)) none;
+  ends = refl;
+}
+  where
+    counted : (n later : ℕ) → n ≡ 0 → n + later ≡ later
+    counted n later e = omega arith
 
 -- an event is counted where it was refused
 one-first : (t : Bool) (a n later : ℕ) → n ≡ cond t (a + 1) a

@@ -5,10 +5,22 @@ use Rattle.gb_formats.proofs.MadeValid.{made-valid}
 use Rattle.gb_formats.specs.Made.{made}
 use Rattle.gb_formats.specs.ValidEvents.{IsValid}
 use Rattle.gb_machine.specs.Events.{step}
-use Rattle.gbus.proofs.Driving.{all-counted, made-next, next-stage}
+use Rattle.gb_machine.specs.State.{first_state}
+use Rattle.gbus.proofs.Driving.{all-counted, first-stage, made-next, next-stage}
 use Rattle.gbus.proofs.drive.made_counts.Goals as goal
 use Rattle.gb_script.specs.Making.{Making}
 use Rattle.gbus.specs.Driving.{Goes}
+
+pub loop-init : goal.loop-init
+loop-init c = record {
+  seed = c.new-maker.ensures.seed;
+  given = c.new-maker.ensures.given;
+  state = first_state;
+  stage = first-stage c.in_ok-driven.driven c.args.seed c.in_ok-driven.ensures.stands
+      c.in_ok-driven.ensures.refused;
+  taken = c.in_ok-driven.ensures.taken;
+  few = let none = c.in_ok-driven.ensures.refused in omega (arith, none);
+}
 
 pub take-requires-clause-valid : goal.take-requires-clause-valid
 take-requires-clause-valid c =
