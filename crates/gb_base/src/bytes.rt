@@ -1,18 +1,21 @@
 //! Bytes, which lie in the value itself while they are few.
 
-ghost use Rattle.std.specs.Prelude.{◌≡◌, [], ◌∷◌, ◌++◌, OnOk, OnErr, IfOk, IsOk};
-ghost use Rattle.gb_base.specs.Bytes.{AreFew};
+ghost use Rattle.std.specs.Prelude.{◌≡◌, ◌≤◌, [], ◌∷◌, ◌++◌, OnOk, OnErr, IfOk, IsOk, take};
+ghost use Rattle.gb_base.specs.Bytes.{AreFew, inline_size};
 
 use crate::{OutOfMemory, TryCopy};
 use smallvec::SmallVec;
 use std::alloc::{AllocError, Global};
 use std::marker::Model;
 
+/// How many bytes lie in the value itself.
+pub const FEW: usize = 16;
+
 /// The bytes of a message, a payload or a manifest. Up to 16 take no memory of their own. They keep
 /// the allocator that they were made with.
 #[derive(Drop)]
 pub struct Bytes {
-    bytes: SmallVec<u8, 16>,
+    bytes: SmallVec<u8, FEW>,
 }
 
 impl Model for Bytes {
@@ -51,9 +54,27 @@ impl Bytes {
         ensures same { IfOk result (λ b. b ≡ bytes.now) }
         ensures few { AreFew bytes.now → IsOk result }
     {
+        if bytes.is_empty() {
+            return Ok(Bytes::new(alloc));
+        }
+        if bytes.len() <= FEW {
+            let mut places = [0; FEW];
+            places[..bytes.len()].copy_from_slice(bytes);
+            return Ok(Bytes::from_front(alloc, places, bytes.len()));
+        }
         Ok(Bytes {
             bytes: SmallVec::from_slice(alloc, bytes)?,
         })
+    }
+
+    /// The first `count` of these bytes. It takes no memory.
+    pub fn from_front(alloc: Global, places: [u8; FEW], count: usize) -> Bytes
+        requires { count ≤ inline_size }
+        ensures { result ≡ take count places }
+    {
+        Bytes {
+            bytes: SmallVec::from_buf_and_len(alloc, places, count),
+        }
     }
 
     /// The bytes in order.
@@ -88,9 +109,7 @@ impl TryCopy for Bytes {
     ghost is_infallible = { AreFew };
 
     fn copy(&self) -> Result<Bytes, OutOfMemory> {
-        Ok(Bytes {
-            bytes: SmallVec::from_slice(*self.bytes.allocator(), self.bytes.as_slice())?,
-        })
+        Bytes::from_slice(*self.bytes.allocator(), self.bytes.as_slice())
     }
 }
 

@@ -88,7 +88,7 @@ fn short_message(alloc: Global, m: &Message<'_>) -> Result<Bytes, OutOfMemory>
 {
     let mut bytes = [0u8; HEADER + SHORT_PAYLOAD];
     let size = encode_into(m, &mut bytes).unwrap();
-    Ok(Bytes::from_slice(alloc, &bytes[..size])?)
+    Ok(Bytes::from_front(alloc, bytes, size))
 }
 
 /// A payload up to the length that a message has room for.
