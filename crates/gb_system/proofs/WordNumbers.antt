@@ -1,10 +1,11 @@
 -- Words are in the order of their numbers, where these differ, and names with two numbers are two.
-use Rattle.std.proofs.Common.{◌≡◌, ◌≢◌, ◌<◌, ◌≤◌, ℕ, zero, suc, ◌+◌, ◌-◌, ◌*◌, ◌^◌, Bool, true}
+use Rattle.std.proofs.Common.{◌≡◌, ◌≢◌, ◌<◌, ◌≤◌, ℕ, zero, suc, Bool, true}
 use Rattle.std.proofs.Common.{false, ◌⊎◌, inl, inr, leb, eqb, List, [], ◌∷◌, slice_index, Less}
 use Rattle.std.proofs.Common.{Equal, Greater, refl, sym, ap, ◌∙◌, arith}
 use Rattle.std.proofs.lemmas.Bool.Decides.{eqb_tells, leb_tells}
 use Rattle.std.specs.Cmp.{nat_cmp_is}
 use Rattle.std.specs.Cmp.Lexicographic.{nat_list_cmp_total, slice_cmp}
+use Rattle.std.specs.Int.{from_be_bytes, w128}
 use Rattle.std.specs.Ordering.{nat_cmp, ordering_reverse, ordering_then}
 use Rattle.gb_base.specs.declared.name.Name.{Name}
 use Rattle.gb_machine.specs.Names.{same_name}
@@ -99,47 +100,23 @@ two-names a b m n x y apart = by (same_name a b) refl
     by true is = absurd (apart (x.is ∙ ap name_number (one_name a b is) ∙ sym y.is))
     by false is = refl
 
--- ---- a number fits
-
--- numbers of so many bytes are below this
-abbrev top : ℕ → ℕ
-top zero = 1
-top (suc n) = top n * 256
-
-below : (n : ℕ) (word : List ℕ) → AreBytes word → word_number n word < top n
-unfolding word_number
-below zero word b = omega arith
-below (suc n) word b = omega (arith, below n word b, b n)
-
-grows : (n k m : ℕ) → m ≡ k + n → top n ≤ top m
-grows n zero m e = let same : m ≡ n = omega (arith, e) in omega (arith, ap top same)
-grows n (suc k) zero e = absurd (omega (arith, e))
-grows n (suc k) (suc m) e = omega (arith, grows n k m (omega (arith, e)))
+-- ---- a number is made
 
 -- a byte in front
-led : (who : ℕ) (word : List ℕ) → who < 256 → AreBytes word → AreBytes (who ∷ word)
+pub led : (who : ℕ) (word : List ℕ) → who < 256 → AreBytes word → AreBytes (who ∷ word)
 led who word low bytes zero = low
 led who word low bytes (suc i) = bytes i
 
--- so one with fewer than 15 bytes of a word has room for one more
-pub fits : (n who : ℕ) (word : List ℕ) → n < 15 → who < 256 → AreBytes word
-    → word_number (suc n) (who ∷ word) < 2 ^ 120
-fits n who word h low bytes =
+-- the number of 16 bytes, the first being the most significant
+pub of-digits : (digits word : List ℕ)
+    → ((i : ℕ) → i < 16 → slice_index digits i ≡ slice_index word i)
+    → from_be_bytes w128 digits ≡ word_number 16 word
+unfolding word_number
+of-digits digits word same =
     omega (
       arith,
-      below (suc n) (who ∷ word) (led who word low bytes),
-      grows (suc n) (14 - n) 15 (omega (arith, h)),
+      same 0 (omega arith), same 1 (omega arith), same 2 (omega arith), same 3 (omega arith),
+      same 4 (omega arith), same 5 (omega arith), same 6 (omega arith), same 7 (omega arith),
+      same 8 (omega arith), same 9 (omega arith), same 10 (omega arith), same 11 (omega arith),
+      same 12 (omega arith), same 13 (omega arith), same 14 (omega arith), same 15 (omega arith),
     )
-
--- ---- a number is made
-
--- one byte more
-pub step : (n number byte who : ℕ) (word : List ℕ) → number ≡ word_number (suc n) (who ∷ word)
-    → byte ≡ slice_index word n
-    → number * 256 + byte ≡ word_number (suc (n + 1)) (who ∷ word)
-unfolding word_number
-step n number byte who word is at =
-    let more : number * 256 + byte ≡ word_number (suc (suc n)) (who ∷ word) =
-    omega (arith, is, at) in
-    let next : suc n ≡ n + 1 = omega arith in
-    more ∙ ap (λ m. word_number (suc m) (who ∷ word)) next

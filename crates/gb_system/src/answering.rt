@@ -46,6 +46,7 @@ impl Parties {
 }
 
 /// A side of a connection between these ends answered a request.
+#[inline(always)]
 fn replied(
     alloc: Global,
     side: Side,

@@ -126,6 +126,7 @@ impl Parties {
 }
 
 /// A request was made on a connection between these ends.
+#[inline(always)]
 fn asked(alloc: Global, q: &Draft<'_>, ends: (u16, End), sent: Sent) -> Result<Entry, OutOfMemory>
     ensures { IfOk result (λ e. IsAskable q.now.kind q.now.payload.now → e ≡ ask_told q.now.side
         ends sent.number sent.label q.now.kind q.now.payload.now sent.lost) }

@@ -1,7 +1,7 @@
 //! Names in their order.
 
 ghost use Rattle.std.proofs.Common.{ap};
-ghost use Rattle.std.specs.Prelude.{◌≡◌, ◌∷◌, IfOk, Some, refl, slice_index};
+ghost use Rattle.std.specs.Prelude.{◌≡◌, ◌<◌, ◌∷◌, ℕ, IfOk, Some, refl, slice_index};
 ghost use Rattle.std.specs.Cmp as order;
 ghost use Rattle.std.specs.Hash as fed;
 ghost use Rattle.gb_machine.specs.Names.{same_name};
@@ -92,18 +92,18 @@ impl Key {
 fn number_of(who: u8, word: &[u8]) -> u128
     ensures { IsNumberOf result (who ∷ word.now) }
 {
-    let mut number = u128::from(who);
-    for i in 0..BYTES {
-        number = number * 256 + u128::from(byte_at(word, i));
-    }
-    number
+    u128::from_be_bytes(digits_of(who, word))
 }
 
-/// A byte, 0 past the end.
-fn byte_at(bytes: &[u8], i: usize) -> u8
-    ensures { result ≡ slice_index bytes.now i }
+/// A requester and the first 15 bytes of a word, with zeros past the end.
+fn digits_of(who: u8, word: &[u8]) -> [u8; 16]
+    ensures { (i : ℕ) → i < 16 → slice_index result i ≡ slice_index (who ∷ word.now) i }
 {
-    bytes.get(i).copied().unwrap_or(0)
+    let mut digits = [0; BYTES + 1];
+    digits[0] = who;
+    let count = word.len().min(BYTES);
+    digits[1..count + 1].copy_from_slice(&word[..count]);
+    digits
 }
 
 impl PartialEq for Key {

@@ -159,6 +159,7 @@ impl Parties {
 }
 
 /// One entry is told, and nothing else.
+#[inline(always)]
 fn tell_alone(told: &mut Entries, one: Entry) -> Result<(), OutOfMemory>
     ensures { OnOk result (told.new ≡ one ∷ []) }
 {
