@@ -17,7 +17,7 @@ use Rattle.gb_ops.specs.Finding.{IsLeast}
 use Rattle.gb_ops.specs.Operations.{Operations, next_label}
 use Rattle.gb_table.specs.Table.{Puts}
 use Rattle.gb_ops.specs.Tables.{AllCovered, Enters, Kept, Leaves, LeavesAs, MarksAs}
-use Rattle.gb_ops.specs.Tables.{ReleasesAs, gave_up, holder_in, numbered, pending_in}
+use Rattle.gb_ops.specs.Tables.{ReleasesAs, gave_up, holder_in, pending_in}
 use Rattle.gb_ops.specs.declared.entries.Holder.{Holder}
 use Rattle.gb_ops.specs.declared.entries.Pending.{Pending}
 use Rattle.gb_ops.specs.declared.tables.Tables.{Tables}
@@ -27,7 +27,7 @@ abbrev pub view : LabelSet → Tables → Operations
 view labels t =
     record {
       holders = t.holders;
-      pending = numbered t.pending.entries;
+      pending = t.pending;
       last = labels.last;
     }
 
@@ -112,9 +112,9 @@ begins_anew labels freed after t m u x label n d p r k is next there e l w =
         freed = subst (λ (q : Pending). Puts (holder_in m) (holder_in u) q.label None)
             (same_some p former (sym there ∙ is)) l.holder;
       };
-      pending = puts_from by_number (pending_in t) (numbered m.pending.entries)
-          (numbered u.pending.entries) n (Some (record { label = label; deadline = d }))
-          (ap (λ b. numbered b.entries) l.pending) e.pending;
+      pending = puts_from by_number (pending_in t) m.pending
+          u.pending n (Some (record { label = label; deadline = d }))
+          l.pending e.pending;
       last = w.last;
     })
 
@@ -139,7 +139,7 @@ pub record Departs (t u : Tables) (n : ℕ) (p : Pending) (w : Option Holder) : 
 covered_same : (m u : Tables) → u.pending ≡ m.pending → u.soonest ≡ m.soonest
     → AllCovered m → AllCovered u
 covered_same m u pending soonest k n p h =
-    let after = k n p (sym (ap (λ b. lookup (by_number n) (numbered b.entries)) pending) ∙ h) in
+    let after = k n p (sym (ap (lookup (by_number n)) pending) ∙ h) in
     omega (arith, after, soonest)
 
 pub marked : (labels : LabelSet) (t m u : Tables) (n : ℕ) (p : Pending) → Kept labels t
@@ -147,8 +147,8 @@ pub marked : (labels : LabelSet) (t m u : Tables) (n : ℕ) (p : Pending) → Ke
     → MarksAs m u p.label → Departs t u n p (Some (late_holder n))
 marked labels t m u n p k l w = record {
   there = l.there;
-  pending = puts_from by_number (pending_in t) (numbered m.pending.entries)
-      (numbered u.pending.entries) n None (ap (λ b. numbered b.entries) w.pending) l.pending;
+  pending = puts_from by_number (pending_in t) m.pending
+      u.pending n None w.pending l.pending;
   holder = record {
     here =
         w.holder.here
@@ -162,8 +162,8 @@ pub released : (t m u : Tables) (n : ℕ) (p : Pending) (r : Option Holder) → 
     → ReleasesAs m u p.label r → Departs t u n p None
 released t m u n p r l w = record {
   there = l.there;
-  pending = puts_from by_number (pending_in t) (numbered m.pending.entries)
-      (numbered u.pending.entries) n None (ap (λ b. numbered b.entries) w.pending) l.pending;
+  pending = puts_from by_number (pending_in t) m.pending
+      u.pending n None w.pending l.pending;
   holder = puts_to nat_eq (holder_in u) t.holders m.holders p.label None
       l.holders w.holder;
   covered = λ k. covered_same m u w.pending w.soonest (l.covered k);
@@ -255,7 +255,7 @@ pub answered : (labels : LabelSet) (t m u : Tables) (label : ℕ) (h : Holder) (
     → Answered t u label h.number
 answered labels t m u label h r k w shut l =
     let is = opened labels t label h k w.there shut in
-    let same = ap (λ b. numbered b.entries) w.pending in
+    let same = w.pending in
     let away =
     leaves_it m u h.number is.found r
     (ap (lookup (by_number h.number)) same ∙ is.there) l in
@@ -264,8 +264,8 @@ answered labels t m u label h r k w shut l =
       label_is = is.label_is;
       departs = record {
         there = is.there;
-        pending = puts_to by_number (pending_in u) (numbered t.pending.entries)
-            (numbered m.pending.entries) h.number None same away.pending;
+        pending = puts_to by_number (pending_in u) t.pending
+            m.pending h.number None same away.pending;
         holder =
             subst (λ x. Puts (holder_in t) (holder_in u) x None) (sym is.label_is)
             (puts_from nat_eq (holder_in t) m.holders u.holders label None

@@ -6,8 +6,8 @@ use Rattle.gb_labels.specs.Drawing.{Frees, Marks, Takes}
 use Rattle.gb_labels.specs.LabelSet.{LabelSet, is_in_use}
 use Rattle.gb_ops.proofs.Maps.{same_some}
 use Rattle.gb_table.specs.Table.{Puts}
-use Rattle.gb_ops.specs.Tables.{AllCovered, Enters, Kept, ReleasesAs, holder_in, pending_among}
-use Rattle.gb_ops.specs.Tables.{pending_in}
+use Rattle.gb_ops.specs.Places.{pending_among}
+use Rattle.gb_ops.specs.Tables.{AllCovered, Enters, Kept, ReleasesAs, holder_in, pending_in}
 use Rattle.gb_ops.specs.declared.entries.Holder.{Holder}
 use Rattle.gb_ops.specs.declared.entries.Pending.{Pending}
 use Rattle.gb_ops.specs.declared.tables.Tables.{Tables}
@@ -98,7 +98,7 @@ begun_anew old freed new t m u label n d p r k unheld there e l f w = record {
     entered = record { label = label; deadline = d }
 
     pending_same : (x : ℕ) (q : Pending) → pending_in u x ≡ Some q → pending_in m x ≡ Some q
-    pending_same x q h = sym (ap (λ b. pending_among b.entries x) l.pending) ∙ h
+    pending_same x q h = sym (ap (λ b. pending_among b x) l.pending) ∙ h
 
     -- the two identifiers are two
     other : label ≢ p.label
@@ -138,7 +138,7 @@ begun_anew old freed new t m u label n d p r k unheld there e l f w = record {
         → option_map (λ q. q.label) (pending_in u y) ≡ Some x
     opened x y h (inl is) either =
         let same = holder_number label y n u (ap (holder_in u) (sym is) ∙ h) here in
-        ap (λ b. option_map (λ q. q.label) (pending_among b.entries y)) l.pending
+        ap (λ b. option_map (λ q. q.label) (pending_among b y)) l.pending
         ∙ ap (λ z. option_map (λ q. q.label) (pending_in m z)) same
         ∙ ap (option_map (λ q. q.label)) e.pending.here
         ∙ ap Some (sym is)
@@ -146,7 +146,7 @@ begun_anew old freed new t m u label n d p r k unheld there e l f w = record {
         absurd (cc (h, ap (holder_in u) is, l.holder.here))
     opened x y h (inr ne) (inr former) =
         let before = k.opened x y (sym (else x ne former) ∙ h) in
-        ap (λ b. option_map (λ q. q.label) (pending_among b.entries y)) l.pending
+        ap (λ b. option_map (λ q. q.label) (pending_among b y)) l.pending
         ∙ ap (option_map (λ q. q.label))
         (e.pending.others y
         (λ is. former (sym (same_some p.label x

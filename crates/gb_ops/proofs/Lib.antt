@@ -3,3 +3,4 @@ mod Dues
 mod Keeping
 pub mod Listing
 mod Maps
+mod Placed

@@ -1,7 +1,7 @@
 -- Numbers in order, and whose they are.
 use Rattle.std.proofs.Common.{◌≡◌, ◌<◌, ℕ, Bool, true, false, cond, ◌⊎◌, inl, inr, ⊎_elim, Some}
-use Rattle.std.proofs.Common.{List, [], ◌∷◌, ◌++◌, Less, Equal, Greater, refl, sym, ap, subst, ◌∙◌}
-use Rattle.std.proofs.Common.{append_assoc, arith}
+use Rattle.std.proofs.Common.{List, [], ◌∷◌, Less, Equal, Greater, refl, sym, ap, subst, ◌∙◌}
+use Rattle.std.proofs.Common.{arith}
 use Rattle.std.proofs.lemmas.Bool.{eq-eqb}
 use Rattle.std.proofs.lemmas.Bool.Decides.{nat_tests}
 use Rattle.std.proofs.lemmas.Map.Keys.{IsDistinct-head, IsDistinct-tail, sorted_head, sorted_tail}
@@ -13,12 +13,10 @@ use Rattle.std.specs.List.Sorted.{IsStrictlySortedBy}
 use Rattle.std.specs.Map.{keys_of, lookup}
 use Rattle.std.specs.Ordering.{is_eq, match_ordering, nat_cmp}
 use Rattle.std.specs.declared.cmp.Ordering.{Ordering}
-use Rattle.std.specs.declared.cmp.Reverse.{Reverse}
 use Rattle.gb_machine.specs.Members.{Each, EachTwo, IsIn}
 use Rattle.gb_ops.proofs.Maps.{key_same, same_some}
 use Rattle.gb_ops.specs.Listed.{IsLate, IsOpen, Lists, late_among, put_late}
 use Rattle.gb_ops.specs.Operations.{Operations}
-use Rattle.gb_ops.specs.Tables.{falling, numbered, rising_numbers}
 use Rattle.gb_ops.specs.declared.entries.Holder.{Holder}
 use Rattle.gb_ops.specs.declared.entries.Pending.{Pending}
 
@@ -106,85 +104,15 @@ at-stands e (f ∷ es) s (inr i) =
 
 -- ---- the open ones
 
--- the numbers so far and the last one, and those in front of it
-pub rising_last : (ns ms : List ℕ) (es fs : List (Reverse ℕ × Pending)) (k : Reverse ℕ)
-    (p : Pending) → es ≡ fs ++ (k, p) ∷ [] → ms ≡ ns ++ k.0 ∷ []
-    → ms ++ rising_numbers fs ≡ ns ++ rising_numbers es
-rising_last ns ms es fs k p is more =
-    ap (λ l. l ++ rising_numbers fs) more ∙ append_assoc ns (k.0 ∷ []) (rising_numbers fs)
-    ∙ ap (λ l. ns ++ l) (sym (over fs) ∙ ap rising_numbers (sym is))
-  where
-    over : (gs : List (Reverse ℕ × Pending))
-        → rising_numbers (gs ++ (k, p) ∷ []) ≡ k.0 ∷ rising_numbers gs
-    over [] = refl
-    over (g ∷ gs) = ap (λ l. l ++ g.0.0 ∷ []) (over gs)
-
--- a member of a list, or the one behind it
-in-last : (n : ℕ) (ns : List ℕ) → IsIn n (ns ++ n ∷ [])
-in-last n [] = inl refl
-in-last n (m ∷ ns) = inr (in-last n ns)
-
-in-front : (n : ℕ) (ns : List ℕ) (k : ℕ) → IsIn n ns → IsIn n (ns ++ k ∷ [])
-in-front n [] k i = absurd i
-in-front n (m ∷ ns) k (inl is) = inl is
-in-front n (m ∷ ns) k (inr i) = inr (in-front n ns k i)
-
-in-either : (n : ℕ) (ns : List ℕ) (k : ℕ) → IsIn n (ns ++ k ∷ []) → (n ≡ k) ⊎ IsIn n ns
-in-either n [] k (inl is) = inl is
-in-either n [] k (inr i) = absurd i
-in-either n (m ∷ ns) k (inl is) = inr (inl is)
-in-either n (m ∷ ns) k (inr i) = ⊎_elim (λ is. inl is) (λ j. inr (inr j)) (in-either n ns k i)
-
-each-last : (P : ℕ → Type 0) (ns : List ℕ) (k : ℕ) → Each P ns → P k → Each P (ns ++ k ∷ [])
-each-last P [] k all last = (last, tt)
-each-last P (n ∷ ns) k all last = (all.0, each-last P ns k all.1 last)
-
-rises-last : (ns : List ℕ) (k : ℕ) → EachTwo (λ n m. n < m) ns → Each (λ n. n < k) ns
-    → EachTwo (λ n m. n < m) (ns ++ k ∷ [])
-rises-last [] k rise below = (tt, tt)
-rises-last (n ∷ ns) k rise below =
-    (each-last (λ m. n < m) ns k rise.0 below.0, rises-last ns k rise.1 below.1)
-
--- the numbers are those of the keys
-in-rising : (n : ℕ) (es : List (Reverse ℕ × Pending)) → IsIn n (keys_of (numbered es))
-    → IsIn n (rising_numbers es)
-in-rising n [] i = i
-in-rising n (e ∷ es) (inl is) =
-    subst (λ m. IsIn n (rising_numbers es ++ m ∷ [])) is (in-last n (rising_numbers es))
-in-rising n (e ∷ es) (inr i) = in-front n (rising_numbers es) e.0.0 (in-rising n es i)
-
-rising-in : (n : ℕ) (es : List (Reverse ℕ × Pending)) → IsIn n (rising_numbers es)
-    → IsIn n (keys_of (numbered es))
-rising-in n [] i = i
-rising-in n (e ∷ es) i =
-    ⊎_elim (λ is. inl is) (λ j. inr (rising-in n es j)) (in-either n (rising_numbers es) e.0.0 i)
-
--- and they rise
-all-below : (k : Reverse ℕ) (es : List (Reverse ℕ × Pending))
-    → AllByRecursion (λ y. falling k y ≡ Less) (keys_of es)
-    → Each (λ n. n < k.0) (rising_numbers es)
-all-below k [] all = tt
-all-below k (e ∷ es) all =
-    each-last (λ n. n < k.0) (rising_numbers es) e.0.0 (all-below k es all.1)
-    (let is = all.0 in let low : e.0.0 < k.0 = grind (arith, nat_tests) in low)
-
-rises : (es : List (Reverse ℕ × Pending)) → IsStrictlySortedBy falling (keys_of es)
-    → EachTwo (λ n m. n < m) (rising_numbers es)
-rises [] s = tt
-rises (e ∷ es) s =
-    rises-last (rising_numbers es) e.0.0 (rises es (sorted_tail falling e.0 (keys_of es) s))
-    (all-below e.0 es (sorted_head falling e.0 (keys_of es) s))
-
 -- The numbers of the open requests are those of the keys.
-pub unended-are : (x : Operations) (es : List (Reverse ℕ × Pending)) (ns : List ℕ)
-    → numbered es ≡ x.pending
-    → ns ≡ rising_numbers es → IsStrictlySortedBy falling (keys_of es) → Lists (IsOpen x) ns
+pub unended-are : (x : Operations) (es : List (ℕ × Pending)) (ns : List ℕ) → es ≡ x.pending
+    → ns ≡ keys_of es → IsStrictlySortedBy nat_cmp (keys_of es) → Lists (IsOpen x) ns
 unended-are x es ns same is s = record {
-  rise = subst (EachTwo (λ n m. n < m)) (sym is) (rises es s);
-  all = λ n some. subst (IsIn n) (sym is) (in-rising n es (key-in n (numbered es)
-      (subst (λ (l : List (ℕ × Pending)). IsSome (lookup (is_at (nat_cmp n)) l)) (sym same) some)));
+  rise = subst (EachTwo (λ n m. n < m)) (sym is) (rising (keys_of es) s);
+  all = λ n some. subst (IsIn n) (sym is) (key-in n es
+      (subst (λ (l : List (ℕ × Pending)). IsSome (lookup (is_at (nat_cmp n)) l)) (sym same) some));
   only = λ n i. subst (λ (l : List (ℕ × Pending)). IsSome (lookup (is_at (nat_cmp n)) l)) same
-      (in-key n (numbered es) (rising-in n es (subst (IsIn n) is i)));
+      (in-key n es (subst (IsIn n) is i));
 }
 
 -- ---- those that were given up

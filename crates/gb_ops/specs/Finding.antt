@@ -1,14 +1,12 @@
 -- Whether a request is open, the least that is, and the least of those whose deadline came.
 use Rattle.std.specs.Prelude.{◌≡◌, ◌<◌, ◌≤◌, ℕ, Bool, true, false, nat_le, if◌then◌else◌}
 use Rattle.std.specs.Prelude.{Option, Some, None, IsSome, List, [], ◌∷◌}
-use Rattle.std.specs.Option.{option_or}
 use Rattle.gb_ops.specs.declared.entries.Pending.{Pending}
 
--- the last of a list whose deadline came
+-- the first of a list whose deadline came
 abbrev pub due_in : ℕ → List (ℕ × Pending) → Option ℕ
 due_in now [] = None
-due_in now (e ∷ es) = option_or (due_in now es)
-    (if nat_le e.1.deadline now then Some e.0 else None)
+due_in now (e ∷ es) = if nat_le e.1.deadline now then Some e.0 else due_in now es
 
 -- a request is open, and its deadline came
 pub record IsDue (pending : ℕ → Option Pending) (now n : ℕ) : Type 0 where

@@ -8,8 +8,8 @@ use Rattle.gb_ops.specs.declared.entries.Holder.{Holder}
 use Rattle.gb_ops.specs.declared.entries.Pending.{Pending}
 use Rattle.gb_table.specs.Table.{item_at}
 
--- What each identifier is in use for, the open requests, the greatest number first, and the last
--- identifier that was drawn, 0 before the first.
+-- What each identifier is in use for, the open requests in order of number, and the last identifier
+-- that was drawn, 0 before the first.
 pub record Operations : Type 0 where
   pub holders : List (ℕ × Holder)
   pub pending : List (ℕ × Pending)

@@ -1,12 +1,8 @@
 -- What the maps keep, and what their calls do.
-use Rattle.std.specs.Prelude.{◌≡◌, ◌≤◌, ℕ, true, false, cond, Option, Some, None, is_some}
-use Rattle.std.specs.Prelude.{option_map, IsNone, List, [], ◌∷◌, ◌++◌}
-use Rattle.std.specs.BTreeMap.{BTreeMap, get, is_at}
-use Rattle.std.specs.Map.{lookup}
-use Rattle.std.specs.Ordering.{nat_cmp}
-use Rattle.std.specs.declared.cmp.Ordering.{Ordering}
-use Rattle.std.specs.declared.cmp.Reverse.{Reverse}
+use Rattle.std.specs.Prelude.{◌≡◌, ◌≤◌, ℕ, true, false, Option, Some, None, is_some}
+use Rattle.std.specs.Prelude.{option_map, IsNone, []}
 use Rattle.gb_labels.specs.LabelSet.{LabelSet, is_in_use}
+use Rattle.gb_ops.specs.Places.{pending_among}
 use Rattle.gb_ops.specs.declared.entries.Holder.{Holder}
 use Rattle.gb_ops.specs.declared.entries.Pending.{Pending}
 use Rattle.gb_ops.specs.declared.tables.Tables.{Tables}
@@ -16,38 +12,14 @@ use Rattle.gb_table.specs.Table.{Puts, item_at}
 abbrev pub holder_in : Tables → ℕ → Option Holder
 holder_in t label = item_at t.holders label
 
--- the order of the open requests: the greatest number first
-abbrev pub falling : Reverse ℕ → Reverse ℕ → Ordering
-falling x y = nat_cmp y.0 x.0
-
--- the open requests with their numbers, in that order
-abbrev pub numbered : List (Reverse ℕ × Pending) → List (ℕ × Pending)
-numbered [] = []
-numbered (e ∷ es) = (e.0.0, e.1) ∷ numbered es
-
--- their numbers from the least on
-abbrev pub rising_numbers : List (Reverse ℕ × Pending) → List ℕ
-rising_numbers [] = []
-rising_numbers (e ∷ es) = rising_numbers es ++ e.0.0 ∷ []
-
 -- an open request by its number
-abbrev pub pending_among : List (Reverse ℕ × Pending) → ℕ → Option Pending
-pending_among es n = lookup (is_at (nat_cmp n)) (numbered es)
-
 abbrev pub pending_in : Tables → ℕ → Option Pending
-pending_in t n = pending_among t.pending.entries n
-
--- what a map has after a change at one number
-abbrev pub Updated : BTreeMap (Reverse ℕ) Pending → BTreeMap (Reverse ℕ) Pending → ℕ
-    → Option Pending → Type 0
-Updated m n k w =
-    (q : Reverse ℕ)
-    → get falling n q ≡ cond (is_at (falling (record { 0 = k })) q) w (get falling m q)
+pending_in t n = pending_among t.pending n
 
 -- nothing is kept
 pub record IsEmpty (t : Tables) : Type 0 where
   pub holders : t.holders ≡ []
-  pub pending : t.pending.entries ≡ []
+  pub pending : t.pending ≡ []
 
 -- no deadline of an open request is before the soonest that is kept
 abbrev pub AllCovered : Tables → Type 0
@@ -64,7 +36,7 @@ pub record Enters (old new : Tables) (label n deadline : ℕ) : Type 0 where
 -- all is as it was
 pub record IsUnchanged (old new : Tables) : Type 0 where
   pub holders : new.holders ≡ old.holders
-  pub pending : new.pending.entries ≡ old.pending.entries
+  pub pending : new.pending ≡ old.pending
   pub soonest : new.soonest ≡ old.soonest
 
 -- an open request is open no more
@@ -77,7 +49,7 @@ pub record Leaves (old new : Tables) (n : ℕ) (p : Pending) : Type 0 where
 -- or it wasn't open
 abbrev pub LeavesAs : Tables → Tables → ℕ → Option Pending → Type 0
 LeavesAs old new n (Some p) = Leaves old new n p
-LeavesAs old new n None = (pending_in old n ≡ None) × (new.pending.entries ≡ old.pending.entries)
+LeavesAs old new n None = (pending_in old n ≡ None) × (new.pending ≡ old.pending)
     × (new.holders ≡ old.holders) × (new.soonest ≡ old.soonest)
 
 -- nothing has an identifier any more

@@ -2,6 +2,7 @@
 #![tactic(auto)]
 
 mod entries;
+mod open_list;
 mod ops;
 mod tables;
 

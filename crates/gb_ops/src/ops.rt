@@ -31,13 +31,13 @@ pub struct Ops {
 
 impl Model for Ops {
     ghost use Rattle.gb_ops.specs.Operations.{Operations};
-    ghost use Rattle.gb_ops.specs.Tables.{Kept, numbered};
+    ghost use Rattle.gb_ops.specs.Tables.{Kept};
 
     ghost Value = { Operations };
 
     ghost view = { λ o. record {
       holders = o.tables.holders;
-      pending = numbered o.tables.pending.entries;
+      pending = o.tables.pending;
       last = o.labels.last;
     } };
 

@@ -1,13 +1,14 @@
 //! Requests by identifier and by number.
 
 ghost use Rattle.std.specs.Prelude.{◌≡◌, [], IfOk, IsOk, IsSome, OnErr, OnOk, nat_eq};
-ghost use Rattle.std.specs.BTreeMap.{IsOrdered};
 ghost use Rattle.std.specs.List.{IsDistinct};
 ghost use Rattle.std.specs.List.Sorted.{IsStrictlySortedBy};
 ghost use Rattle.std.specs.Map.{keys_of};
 ghost use Rattle.std.specs.Ordering.{nat_cmp};
-ghost use Rattle.gb_ops.specs.Finding.{FindsDue, FindsLeast, TellsIdle, due_in};
+ghost use Rattle.gb_table.specs.Table.{Puts};
+ghost use Rattle.gb_ops.specs.Finding.{FindsDue, FindsLeast, TellsIdle};
 ghost use Rattle.gb_ops.specs.Listed.{late_among};
+ghost use Rattle.gb_ops.specs.Places.{pending_among};
 ghost use Rattle.gb_ops.specs.Tables.{
   AllCovered,
   Enters,
@@ -16,29 +17,24 @@ ghost use Rattle.gb_ops.specs.Tables.{
   LeavesAs,
   MarksAs,
   ReleasesAs,
-  Updated,
-  falling,
   holder_in,
-  numbered,
-  pending_among,
   pending_in,
-  rising_numbers,
 };
 
+use crate::open_list::OpenList;
 use crate::{Holder, Pending};
 use gb_base::{Numbers, OutOfMemory};
 use gb_table::Table;
 use std::alloc::Global;
-use std::cmp::Reverse;
-use std::collections::{BTreeMap, BTreeSet};
+use std::collections::BTreeSet;
 
 /// The requests of one side of a connection, in maps.
 #[derive(Drop)]
 pub struct Tables {
     /// By identifier, those that are open and those that were given up.
     pub holders: Table<Holder>,
-    /// By number, those that are open, the greatest number first: a new one stands at the front.
-    pub pending: BTreeMap<Reverse<u64>, Pending>,
+    /// By number, those that are open.
+    pub pending: OpenList,
     /// No deadline of those that are open is before it, in milliseconds.
     pub soonest: u64,
 }
@@ -50,7 +46,7 @@ impl Tables {
     {
         Tables {
             holders: Table::new(alloc),
-            pending: BTreeMap::new(alloc),
+            pending: OpenList::new(alloc),
             soonest: u64::MAX,
         }
     }
@@ -67,9 +63,7 @@ impl Tables {
         ensures entered { OnOk result (Enters self.old self.new label n deadline) }
         ensures unchanged { OnErr result (IsUnchanged self.old self.new) }
     {
-        let former = self
-            .pending
-            .insert(Reverse(n), Pending { label, deadline })?;
+        let former = self.pending.insert(n, Pending { label, deadline })?;
         let holder = Holder {
             number: n,
             given_up: false,
@@ -86,7 +80,7 @@ impl Tables {
     pub fn leave(&mut self, n: u64) -> Option<Pending>
         ensures { LeavesAs self.old self.new n result }
     {
-        let pending = self.pending.remove(&Reverse(n))?;
+        let pending = self.pending.remove(n)?;
         if self.pending.is_empty() {
             self.soonest = u64::MAX;
         }
@@ -141,20 +135,16 @@ impl Tables {
     pub fn first(&self) -> Option<u64>
         ensures { FindsLeast (pending_in self.now) result }
     {
-        let (number, _) = self.pending.last_key_value()?;
-        Some(number.0)
+        self.pending.first()
     }
 
     /// The numbers of the open requests, in order.
     pub fn unended(&self, alloc: Global) -> Result<Numbers, OutOfMemory>
-        ensures numbers { IfOk result (λ ns. ns ≡ rising_numbers self.now.pending.entries) }
-        ensures ordered { IsOrdered falling self.now.pending }
-        ensures few { self.now.pending.entries ≡ [] → IsOk result }
+        ensures numbers { IfOk result (λ ns. ns ≡ keys_of self.now.pending) }
+        ensures ordered { IsStrictlySortedBy nat_cmp (keys_of self.now.pending) }
+        ensures few { self.now.pending ≡ [] → IsOk result }
     {
-        let mut numbers = Numbers::new(alloc);
-        for (number, _) in self.pending.iter().rev() {
-            numbers.push(number.0)?;
-        }
+        let numbers = self.pending.numbers(alloc)?;
         Ok(numbers)
     }
 
@@ -194,37 +184,24 @@ impl Tables {
         if now < self.soonest {
             return None;
         }
-        self.first_by(now)
-    }
-
-    /// The first in order of number whose deadline came.
-    fn first_by(&self, now: u64) -> Option<u64>
-        ensures first { result ≡ due_in now (numbered self.now.pending.entries) }
-        ensures ordered { IsOrdered falling self.now.pending }
-    {
-        for (number, pending) in self.pending.iter().rev() {
-            if pending.deadline <= now {
-                return Some(number.0);
-            }
-        }
-        None
+        self.pending.first_due(now)
     }
 }
 
 /// A request that is open has what it had before, or is open no more.
-fn restore(pending: &mut BTreeMap<Reverse<u64>, Pending>, n: u64, former: Option<Pending>)
-    requires { IsSome (pending_among pending.old.entries n) }
-    ensures restored { Updated pending.old pending.new n former }
-    ensures ordered { IsOrdered falling pending.new }
+fn restore(pending: &mut OpenList, n: u64, former: Option<Pending>)
+    requires { IsSome (pending_among pending.old n) }
+    ensures restored { Puts (pending_among pending.old) (pending_among pending.new) n former }
+    ensures ordered { IsStrictlySortedBy nat_cmp (keys_of pending.new) }
 {
     match former {
         Some(former) => {
-            let Ok(_) = pending.insert(Reverse(n), former) else {
+            let Ok(_) = pending.insert(n, former) else {
                 unreachable!()
             };
         }
         None => {
-            pending.remove(&Reverse(n));
+            pending.remove(n);
         }
     }
 }
