@@ -112,9 +112,8 @@ begins_anew labels freed after t m u x label n d p r k is next there e l w =
         freed = subst (λ (q : Pending). Puts (holder_in m) (holder_in u) q.label None)
             (same_some p former (sym there ∙ is)) l.holder;
       };
-      pending = puts_from by_number (pending_in t) m.pending
-          u.pending n (Some (record { label = label; deadline = d }))
-          l.pending e.pending;
+      pending = puts_from by_number (pending_in t) m.pending u.pending n
+          (Some (record { label = label; deadline = d })) l.pending e.pending;
       last = w.last;
     })
 
@@ -147,8 +146,7 @@ pub marked : (labels : LabelSet) (t m u : Tables) (n : ℕ) (p : Pending) → Ke
     → MarksAs m u p.label → Departs t u n p (Some (late_holder n))
 marked labels t m u n p k l w = record {
   there = l.there;
-  pending = puts_from by_number (pending_in t) m.pending
-      u.pending n None w.pending l.pending;
+  pending = puts_from by_number (pending_in t) m.pending u.pending n None w.pending l.pending;
   holder = record {
     here =
         w.holder.here
@@ -162,8 +160,7 @@ pub released : (t m u : Tables) (n : ℕ) (p : Pending) (r : Option Holder) → 
     → ReleasesAs m u p.label r → Departs t u n p None
 released t m u n p r l w = record {
   there = l.there;
-  pending = puts_from by_number (pending_in t) m.pending
-      u.pending n None w.pending l.pending;
+  pending = puts_from by_number (pending_in t) m.pending u.pending n None w.pending l.pending;
   holder = puts_to nat_eq (holder_in u) t.holders m.holders p.label None
       l.holders w.holder;
   covered = λ k. covered_same m u w.pending w.soonest (l.covered k);
@@ -255,17 +252,16 @@ pub answered : (labels : LabelSet) (t m u : Tables) (label : ℕ) (h : Holder) (
     → Answered t u label h.number
 answered labels t m u label h r k w shut l =
     let is = opened labels t label h k w.there shut in
-    let same = w.pending in
     let away =
     leaves_it m u h.number is.found r
-    (ap (lookup (by_number h.number)) same ∙ is.there) l in
+    (ap (lookup (by_number h.number)) w.pending ∙ is.there) l in
     record {
       found = is.found;
       label_is = is.label_is;
       departs = record {
         there = is.there;
-        pending = puts_to by_number (pending_in u) t.pending
-            m.pending h.number None same away.pending;
+        pending = puts_to by_number (pending_in u) t.pending m.pending h.number None
+            w.pending away.pending;
         holder =
             subst (λ x. Puts (holder_in t) (holder_in u) x None) (sym is.label_is)
             (puts_from nat_eq (holder_in t) m.holders u.holders label None

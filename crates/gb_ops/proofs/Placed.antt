@@ -156,6 +156,18 @@ pub seen-at : (ps : List Place) (i n : ℕ) → Rises ps → IsAt ps i n
     → request_at ps i ≡ at (opened ps) n
 seen-at ps i n r is = found-at ps i n r is ∙ sym (seen ps n r)
 
+-- the first place is let go
+pub puts-rest : (ps : List Place) (n : ℕ) → Rises ps → IsAt ps 0 n
+    → Puts (at (opened ps)) (at (opened (drop 1 ps))) n None
+puts-rest [] n r is = absurd is
+puts-rest (p ∷ ps) n r is = puts-set (p ∷ ps) 0 n None r is
+
+-- it isn't empty
+pub first-open : (ps : List Place) (n : ℕ) → StartsOpen ps → IsAt ps 0 n
+    → request_at ps 0 ≡ None → ⊥
+first-open [] n s is none = is
+first-open (p ∷ ps) n s is none = absurd (cc (s, ap is_some none))
+
 -- ---- a place comes between others
 
 puts-new : (fs gs : List Place) (n : ℕ) (w : Option Pending) → AllBelow n fs

@@ -241,6 +241,24 @@ fn leave(places: &mut VecDeque<Place>, n: u64) -> Option<Pending>
         (pending_among (opened places.new.items)) n None }
     ensures unchanged { result ≡ None → places.new.items ≡ places.old.items }
 {
+    if has_number(places, 0, n) {
+        let request = request_in(places, 0);
+        places.pop_front();
+        trim(places);
+        return request;
+    }
+    leave_among(places, n)
+}
+
+/// A request is open no more, which may be among others.
+fn leave_among(places: &mut VecDeque<Place>, n: u64) -> Option<Pending>
+    requires { IsInOrder places.old.items }
+    ensures order { IsInOrder places.new.items }
+    ensures request { result ≡ pending_among (opened places.old.items) n }
+    ensures left { Puts (pending_among (opened places.old.items))
+        (pending_among (opened places.new.items)) n None }
+    ensures unchanged { result ≡ None → places.new.items ≡ places.old.items }
+{
     let at = place_of(places, n)?;
     let request = request_in(places, at)?;
     places[at] = Place {
