@@ -2,13 +2,13 @@
 use Rattle.std.proofs.Common.{◌≡◌, ◌&&◌, ◌≤◌, ◌+◌, ℕ, Bool, true, List, [], ◌∷◌, ◌++◌, length}
 use Rattle.std.proofs.Common.{length-append, refl, sym, ap, ◌∙◌, arith, subst}
 use Rattle.gb_base.specs.declared.interface.Link.{Link}
+use Rattle.gb_host.proofs.Counts.{counts-kept}
 use Rattle.gb_host.proofs.Idle.{idle-added}
-use Rattle.gb_host.proofs.Marks.{marks-kept}
 use Rattle.gb_host.proofs.Named.{find-kept, number_of}
 use Rattle.gb_host.proofs.Rising.{and-both, rises-kept, rises-without}
 use Rattle.gb_host.specs.Changes.{link_changed}
+use Rattle.gb_host.specs.Counts.{AreCounted}
 use Rattle.gb_host.specs.Indexes.{AreIdle, AreIndexed, Rises}
-use Rattle.gb_host.specs.Marks.{Marks}
 use Rattle.gb_host.specs.Named.{AreNamed}
 use Rattle.gb_host.specs.declared.cports.Cports.{Cports}
 use Rattle.gb_host.specs.declared.ends.Ends.{Ends}
@@ -43,7 +43,7 @@ pub indexed-kept : (cports : Cports) (ends : Ends) (known : Bool) (old new : ℕ
     → AreIndexed cports ends known old ls → new ≤ length ms → AreIdle new ms
     → AreIndexed cports ends known new ms
 indexed-kept cports ends known old new test c ls ms e indexed within quiet = record {
-  marks = marks-kept cports test (link_changed c) ls ms (ap-stays c) indexed.marks e;
+  counted = counts-kept cports test (link_changed c) ls ms (ap-stays c) indexed.counted e;
   rises = λ says. rises-kept test (link_changed c) ls ms (number-stays c) e (indexed.rises says);
   named = λ says i p fits.
       indexed.named says i p fits
@@ -57,13 +57,13 @@ indexed-kept cports ends known old new test c ls ms e indexed within quiet = rec
 pub indexed-added : (cports cports' : Cports) (ends ends' : Ends) (known rises named : Bool)
     (idle : ℕ) (ls ms : List Link) (l : Link) → ms ≡ ls ++ l ∷ []
     → AreIndexed cports ends known idle ls
-    → (Marks cports ls → Marks cports' (ls ++ l ∷ []))
+    → (AreCounted cports ls → AreCounted cports' (ls ++ l ∷ []))
     → (rises ≡ true → Rises ls → Rises (ls ++ l ∷ []))
     → (AreNamed ends ls → named ≡ true → AreNamed ends' (ls ++ l ∷ []))
     → AreIndexed cports' ends' (known && (rises && named)) idle ms
-indexed-added cports cports' ends ends' known rises named idle ls ms l e indexed marked risen known'
+indexed-added cports cports' ends ends' known rises named idle ls ms l e indexed comes risen known'
     = subst (AreIndexed cports' ends' (known && (rises && named)) idle) (sym e) (record {
-      marks = marked indexed.marks;
+      counted = comes indexed.counted;
       rises = λ says.
           let both = and-both known (rises && named) says in
           risen (and-both rises named both.1).0 (indexed.rises both.0);
@@ -79,12 +79,12 @@ indexed-added cports cports' ends ends' known rises named idle ls ms l e indexed
 -- some connections leave
 pub indexed-left : (cports cports' : Cports) (ends ends' : Ends) (known : Bool) (old new : ℕ)
     (test : Link → Bool) (ls ms : List Link) → ms ≡ without test ls
-    → AreIndexed cports ends known old ls → Marks cports' ms
+    → AreIndexed cports ends known old ls → AreCounted cports' ms
     → (AreNamed ends ls → AreNamed ends' (without test ls))
     → new ≤ length ms → AreIdle new ms → AreIndexed cports' ends' known new ms
-indexed-left cports cports' ends ends' known old new test ls ms e indexed marks named within quiet =
-    record {
-      marks = marks;
+indexed-left cports cports' ends ends' known old new test ls ms e indexed counted named within
+    quiet = record {
+      counted = counted;
       rises = λ says. rises-without test ls ms e (indexed.rises says);
       named = λ says. subst (AreNamed ends') (sym e) (named (indexed.named says));
       within = within;

@@ -1,5 +1,6 @@
 pub mod Bridges
 pub mod Changing
+pub mod Counts
 pub mod FarEnds
 pub mod Free
 pub mod Fronts
@@ -8,7 +9,6 @@ pub mod Idle
 pub mod Indexed
 pub mod LinksByNumber
 pub mod Manifests
-pub mod Marks
 pub mod Modules
 pub mod Named
 pub mod Ordering

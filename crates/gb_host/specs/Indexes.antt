@@ -2,7 +2,7 @@
 use Rattle.std.specs.Prelude.{◌≡◌, ◌<◌, ◌≤◌, ℕ, Bool, true, None, List, get_or, length}
 use Rattle.std.specs.List.{AllPairs}
 use Rattle.gb_base.specs.declared.interface.Link.{Link}
-use Rattle.gb_host.specs.Marks.{Marks}
+use Rattle.gb_host.specs.Counts.{AreCounted}
 use Rattle.gb_host.specs.Named.{AreNamed}
 use Rattle.gb_host.specs.declared.cports.Cports.{Cports}
 use Rattle.gb_host.specs.declared.ends.Ends.{Ends}
@@ -15,11 +15,11 @@ Rises links = AllPairs (λ l m. l.connection < m.connection) links
 abbrev pub AreIdle : ℕ → List Link → Type 0
 AreIdle place links = (i : ℕ) (d : Link) → i < place → (get_or links i d).awaits ≡ None
 
--- The CPorts of connections are marked, and none before a place waits. Where it is said so, their
+-- The CPorts of connections are counted, and none before a place waits. Where it is said so, their
 -- numbers rise, and those at each far end are known.
 pub record AreIndexed (cports : Cports) (ends : Ends) (known : Bool) (place : ℕ)
     (links : List Link) : Type 0 where
-  pub marks : Marks cports links
+  pub counted : AreCounted cports links
   pub rises : known ≡ true → Rises links
   pub named : known ≡ true → AreNamed ends links
   pub within : place ≤ length links

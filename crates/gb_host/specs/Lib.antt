@@ -1,9 +1,9 @@
 pub mod Asking
 pub mod Bridging
 pub mod Changes
+pub mod Counts
 pub mod Images
 pub mod Indexes
-pub mod Marks
 pub mod Named
 pub mod Quiet
 pub mod Refusing

@@ -141,8 +141,8 @@ impl Connections {
     pub fn remove(&mut self, intf: u8, cport: u16)
         ensures { self.new.live.items ≡ without (is_link intf cport) self.old.live.items }
     {
+        self.cports.leave_end(self.links.items(), intf, cport);
         self.links.remove(intf, cport);
-        self.cports.refill(self.links.items());
         self.ends.remove(intf, cport);
         self.idle = self.links.idle_from(0);
     }
@@ -151,8 +151,8 @@ impl Connections {
     pub fn remove_all(&mut self, intf: u8)
         ensures { self.new.live.items ≡ without (λ l. l.intf == intf) self.old.live.items }
     {
+        self.cports.leave_all(self.links.items(), intf);
         self.links.remove_all(intf);
-        self.cports.refill(self.links.items());
         self.ends.remove_all(intf);
         self.idle = self.links.idle_from(0);
     }

@@ -1,11 +1,12 @@
 //! The CPorts of the application processor that connections have.
 
-ghost use Rattle.std.specs.Prelude.{◌≡◌, ◌==◌, ◌<◌, ◌≤◌, ◌∷◌, [], ◌++◌, ℕ, IfOk, List, true};
-ghost use Rattle.std.specs.Prelude.{false, get_or};
+ghost use Rattle.std.specs.Prelude.{◌≡◌, ◌==◌, ◌<◌, ◌≤◌, ◌∷◌, [], ◌++◌, ◌^◌, ℕ, IfOk, List};
+ghost use Rattle.std.specs.Prelude.{false, get_or, length, true};
 ghost use Rattle.std.specs.List.{list_any};
 ghost use Rattle.gb_base.specs.declared.interface.Link.{Link};
-ghost use Rattle.gb_host.specs.Marks.{Marks};
-ghost use Rattle.gb_machine.specs.Lists.{first_free};
+ghost use Rattle.gb_host.specs.Counts.{AreCounted};
+ghost use Rattle.gb_machine.specs.Host.{is_link};
+ghost use Rattle.gb_machine.specs.Lists.{first_free, without};
 
 use gb_base::{Link, OutOfMemory};
 use std::alloc::Global;
@@ -16,28 +17,28 @@ const LEAST_CPORT: u16 = 1;
 /// The greatest CPort of the application processor, and one more.
 const CPORTS_END: u16 = 4096;
 
-/// A mark for each CPort of the application processor up to 4,095 that a connection has, and the
-/// least that isn't marked.
+/// How many connections have each CPort of the application processor up to 4,095, and the least
+/// that none has.
 #[derive(Drop)]
 pub struct Cports {
-    taken: Vec<bool>,
+    counts: Vec<u64>,
     least: u16,
 }
 
 impl Cports {
-    /// No CPort is marked.
+    /// No connection has a CPort.
     pub fn new(alloc: Global) -> Result<Cports, OutOfMemory>
-        ensures { IfOk result (λ x. Marks x []) }
+        ensures { IfOk result (λ x. AreCounted x []) }
     {
         Ok(Cports {
-            taken: vec![in alloc; false; CPORTS_END as usize]?,
+            counts: vec![in alloc; 0; CPORTS_END as usize]?,
             least: LEAST_CPORT,
         })
     }
 
     /// The least CPort from 1 to 4,095 that no connection has.
     pub fn free(&self) -> Option<u16>
-        ensures { (ls : List Link) → Marks self.now ls
+        ensures { (ls : List Link) → AreCounted self.now ls
             → result ≡ first_free (λ a. list_any (λ l. l.ap == a) ls) 4095 1 }
     {
         if self.least < CPORTS_END {
@@ -47,60 +48,91 @@ impl Cports {
         }
     }
 
-    /// The CPort of a connection more is marked.
+    /// A connection more has its CPort.
     pub fn take(&mut self, link: Link)
-        ensures { (ls : List Link) → Marks self.old ls → Marks self.new (ls ++ link ∷ []) }
+        ensures { (ls : List Link) → length ls < 2 ^ 63 → AreCounted self.old ls
+            → AreCounted self.new (ls ++ link ∷ []) }
     {
         let i = usize::from(link.ap);
-        if i < self.taken.len() {
-            self.taken[i] = true;
-            self.least = self.unmarked(self.least);
+        if i < self.counts.len() {
+            let count = self.counts[i].saturating_add(1);
+            self.counts[i] = count;
+            self.least = self.unused(self.least);
         }
     }
 
-    /// The CPorts of these connections are marked, and no others.
-    pub fn refill(&mut self, live: &[Link])
-        ensures { (ls : List Link) → Marks self.old ls → Marks self.new live.now }
+    /// The connections of an interface have their CPorts no more.
+    pub fn leave_all(&mut self, live: &[Link], intf: u8)
+        ensures { AreCounted self.old live.now
+            → AreCounted self.new (without (λ l. l.intf == intf) live.now) }
     {
-        self.clear();
         for link in live {
-            self.take(*link);
+            self.leave_where(link.intf == intf, *link);
         }
     }
 
-    /// No CPort is marked from now on.
-    fn clear(&mut self)
-        ensures { (ls : List Link) → Marks self.old ls → Marks self.new [] }
+    /// The connection to a CPort of an interface has its own no more.
+    pub fn leave_end(&mut self, live: &[Link], intf: u8, cport: u16)
+        ensures { AreCounted self.old live.now
+            → AreCounted self.new (without (is_link intf cport) live.now) }
     {
-        self.taken.fill(false);
-        self.least = LEAST_CPORT;
+        for link in live {
+            self.leave_where((link.intf == intf) & (link.cport == cport), *link);
+        }
     }
 
-    /// The least CPort from this one to 4,095 that isn't marked, or 4,096.
-    fn unmarked(&self, from: u16) -> u16
+    /// A connection has its CPort no more, where it is gone.
+    #[inline]
+    fn leave_where(&mut self, gone: bool, link: Link)
+        ensures gone { gone ≡ true → (front behind : List Link)
+            → AreCounted self.old (front ++ link ∷ behind)
+            → AreCounted self.new (front ++ behind) }
+        ensures stays { gone ≡ false → self.new ≡ self.old }
+    {
+        if gone {
+            self.leave(link);
+        }
+    }
+
+    /// A connection fewer has its CPort.
+    fn leave(&mut self, link: Link)
+        ensures { (front behind : List Link) → AreCounted self.old (front ++ link ∷ behind)
+            → AreCounted self.new (front ++ behind) }
+    {
+        let i = usize::from(link.ap);
+        if i < self.counts.len() {
+            let count = self.counts[i].saturating_sub(1);
+            self.counts[i] = count;
+            if count == 0 && link.ap >= LEAST_CPORT {
+                self.least = self.least.min(link.ap);
+            }
+        }
+    }
+
+    /// The least CPort from this one to 4,095 that no connection has, or 4,096.
+    fn unused(&self, from: u16) -> u16
         ensures within { result ≤ 4096 }
-        ensures marked { (a : ℕ) → from ≤ a → a < result
-            → get_or self.now.taken.items a false ≡ true }
-        ensures here { result < 4096 → get_or self.now.taken.items result false ≡ false }
+        ensures used { (a : ℕ) → from ≤ a → a < result → 0 < get_or self.now.counts.items a 0 }
+        ensures here { result < 4096 → get_or self.now.counts.items result 0 ≡ 0 }
         ensures from { from ≤ 4096 → from ≤ result }
     {
         for ap in from..CPORTS_END {
-            if !self.has(ap) {
+            if self.count(ap) == 0 {
                 return ap;
             }
         }
         CPORTS_END
     }
 
-    /// A CPort is marked.
-    fn has(&self, ap: u16) -> bool
-        ensures { result ≡ get_or self.now.taken.items ap false }
+    /// How many connections have a CPort.
+    fn count(&self, ap: u16) -> u64
+        ensures { result ≡ get_or self.now.counts.items ap 0 }
     {
         let i = usize::from(ap);
-        if i < self.taken.len() {
-            self.taken[i]
+        if i < self.counts.len() {
+            self.counts[i]
         } else {
-            false
+            0
         }
     }
 }

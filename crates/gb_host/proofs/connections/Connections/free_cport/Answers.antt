@@ -1,4 +1,4 @@
--- The marks are those of the connections.
+-- The counts are those of the connections.
 use Rattle.std.proofs.Common.{◌==◌, ap, ◌∙◌}
 use Rattle.std.specs.List.{list_any}
 use Rattle.gb_base.specs.declared.interface.Link.{Link}
@@ -8,6 +8,6 @@ use Rattle.gb_host.proofs.connections.Connections.free_cport.Goals as goal
 
 pub returns : goal.returns
 returns c =
-    c.free.ensures c.self.inside.links.live.items c.self.invariant.marks
+    c.free.ensures c.self.inside.links.live.items c.self.invariant.counted
     ∙ ap (λ (x : Links). first_free (λ a. list_any (λ (l : Link). l.ap == a) x.live.items) 4095 1)
     c.self.view_is

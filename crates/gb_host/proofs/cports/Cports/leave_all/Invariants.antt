@@ -1,0 +1,10 @@
+-- Those that were looked at have left where they are gone.
+use Rattle.std.proofs.Common.{◌==◌}
+use Rattle.gb_host.proofs.Counts.{left_of}
+use Rattle.gb_host.specs.Counts.{AreCounted}
+use Rattle.gb_host.proofs.cports.Cports.leave_all.Given as goal
+
+abbrev pub invariant-loop-link : goal.invariant-loop-link
+invariant-loop-link l =
+    AreCounted l.fn.self l.live
+    → AreCounted l.self (left_of (λ k. k.intf == l.intf) l.live l.link-index)
