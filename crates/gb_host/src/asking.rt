@@ -3,13 +3,14 @@
 ghost use Rattle.std.specs.Prelude.{◌≡◌, ◌∷◌, ◌++◌, [], IfOk, find};
 ghost use Rattle.gb_host.specs.Asking.{target_of};
 ghost use Rattle.gb_machine.specs.Host.{in_state, interface_of, with_interface, with_link, link_at};
+ghost use Rattle.gb_machine.specs.SequenceSteps.{payload_of};
 ghost use Rattle.gb_machine.specs.Sequences.{ap_in, asking, device_in, goes_on, opens, step_asked};
 ghost use Rattle.gb_machine.specs.Sequences.{target, way_of};
 
 use crate::failing::to_step;
 use crate::host::{Pending, SVC};
 use crate::interfaces::Change;
-use crate::payloads::{Target, asks_control, kind, payload};
+use crate::payloads::{Target, asks_control, kind, payload, speaks_of_ap};
 use crate::{Act, Acts, Host};
 use gb_base::{ConnState, OutOfMemory, Purpose, SequenceStep};
 
@@ -127,7 +128,7 @@ impl Host {
             ++ asks (asking on purpose (target ap purpose (host_of self.now))) ∷ []) }
     {
         let target = self.target(ap, purpose);
-        let payload = payload(self.alloc, purpose.step, target)?;
+        let payload = payload(self.alloc, purpose.step, target);
         let mut acts = acts;
         acts.push(Act::Ask {
             on,
@@ -160,10 +161,16 @@ impl Host {
         }
     }
 
-    /// The application processor's CPort of the connection of a purpose, 0 where there is none.
+    /// The application processor's CPort of the connection of a purpose, where its request speaks
+    /// of that. Else, and where there is none, 0.
     fn ap(&self, purpose: Purpose) -> u16
-        ensures { result ≡ ap_in (link_at purpose.intf purpose.cport (host_of self.now)) }
+        ensures { payload_of purpose.step (target result purpose (host_of self.now))
+            ≡ payload_of purpose.step (target (ap_in (link_at purpose.intf purpose.cport
+            (host_of self.now))) purpose (host_of self.now)) }
     {
+        if !speaks_of_ap(purpose.step) {
+            return 0;
+        }
         match self.links.at(purpose.intf, purpose.cport) {
             Some(link) => link.ap,
             None => 0,

@@ -1,14 +1,15 @@
 //! The types and payloads of the requests of the sequences.
 
-ghost use Rattle.std.specs.Prelude.{◌≡◌, ◌≤◌, IfOk, length};
+ghost use Rattle.std.specs.Prelude.{◌≡◌, ◌≤◌, ℕ, false, length};
 ghost use Rattle.gb_formats.specs.ControlRecords.{control_ask_payload};
 ghost use Rattle.gb_formats.specs.SvcRecords.{svc_ask_payload};
 ghost use Rattle.gb_host.specs.Asking.{target_of};
+ghost use Rattle.gb_machine.specs.SequenceSteps as machine;
 ghost use Rattle.gb_machine.specs.SequenceSteps.{asks_control, kind_of, payload_of};
 ghost use Rattle.gb_payload.specs.Views.{control_ask_of, svc_ask_of};
 ghost use Rattle.gb_payload.specs.declared.svc_ask.SvcAsk.TheVariants as svc_ask;
 
-use gb_base::{Bytes, OutOfMemory, SequenceStep};
+use gb_base::{Bytes, SequenceStep};
 use gb_payload::{ControlAsk, SvcAsk, control_kinds, svc_kinds};
 use std::alloc::Global;
 
@@ -44,6 +45,19 @@ pub fn asks_control(step: SequenceStep) -> bool
     )
 }
 
+/// A step's request speaks of a CPort of the application processor.
+pub fn speaks_of_ap(step: SequenceStep) -> bool
+    ensures { result ≡ false → (t : machine.Target) (ap : ℕ)
+        → payload_of step (record t { ap = ap }) ≡ payload_of step t }
+{
+    matches!(
+        step,
+        SequenceStep::CreateControl
+            | SequenceStep::CreateConnection
+            | SequenceStep::DestroyConnection
+    )
+}
+
 /// The type of a step's request.
 pub fn kind(step: SequenceStep) -> u8
     ensures { result ≡ kind_of step }
@@ -68,8 +82,8 @@ pub fn kind(step: SequenceStep) -> u8
 }
 
 /// The payload of a step's request.
-pub fn payload(alloc: Global, step: SequenceStep, target: Target) -> Result<Bytes, OutOfMemory>
-    ensures { IfOk result (λ bytes. bytes ≡ payload_of step (target_of target)) }
+pub fn payload(alloc: Global, step: SequenceStep, target: Target) -> Bytes
+    ensures { result ≡ payload_of step (target_of target) }
 {
     let Target { intf, cport, .. } = target;
     match step {
@@ -140,25 +154,25 @@ fn conn_destroy(target: Target) -> SvcAsk
 }
 
 /// The payload of a request of the SVC protocol of at most eight bytes.
-fn svc(alloc: Global, ask: SvcAsk) -> Result<Bytes, OutOfMemory>
+fn svc(alloc: Global, ask: SvcAsk) -> Bytes
     requires { length (svc_ask_payload (svc_ask_of ask)) ≤ 8 }
-    ensures { IfOk result (λ bytes. bytes ≡ svc_ask_payload (svc_ask_of ask)) }
+    ensures { result ≡ svc_ask_payload (svc_ask_of ask) }
 {
-    let mut bytes = [0; 8];
+    let mut bytes = [0; 16];
     let Ok(size) = ask.write(&mut bytes) else {
         unreachable!()
     };
-    Bytes::from_slice(alloc, &bytes[..size])
+    Bytes::from_front(alloc, bytes, size)
 }
 
 /// The payload of a request of the Control protocol of at most two bytes.
-fn control(alloc: Global, ask: ControlAsk) -> Result<Bytes, OutOfMemory>
+fn control(alloc: Global, ask: ControlAsk) -> Bytes
     requires { length (control_ask_payload (control_ask_of ask)) ≤ 2 }
-    ensures { IfOk result (λ bytes. bytes ≡ control_ask_payload (control_ask_of ask)) }
+    ensures { result ≡ control_ask_payload (control_ask_of ask) }
 {
-    let mut bytes = [0; 2];
+    let mut bytes = [0; 16];
     let Ok(size) = ask.write(&mut bytes) else {
         unreachable!()
     };
-    Bytes::from_slice(alloc, &bytes[..size])
+    Bytes::from_front(alloc, bytes, size)
 }
