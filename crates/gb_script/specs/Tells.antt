@@ -48,12 +48,6 @@ StopsAtKind ws why = (more : List Kind → Rest → Said) (i : ℕ) (kinds : Lis
 abbrev pub IsSplit : Rest → List ℕ → Rest → Type 0
 IsSplit ws w rest = (ws.1 ≡ w ∷ rest.1) × (rest.0 ≡ ws.0 + 1)
 
--- The answer is the event of the words, or why they are bad.
-abbrev pub Says : Result Event LineFault → Said → Type 0
-Says (Ok event) said = said ≡ Ok (Some event)
-Says (Err (fault.Bad reason)) said = said ≡ Err reason
-Says (Err (fault.Memory refused)) said = ⊤
-
 -- A line stops by a fault: its reason is the one that the grammar has, or memory was wanting.
 abbrev pub StopsBy : LineFault → (LineReason → Type 0) → Type 0
 StopsBy (fault.Bad why) is_reason = is_reason why

@@ -3,7 +3,7 @@
 ghost use Rattle.std.specs.Prelude.{◌≡◌};
 ghost use Rattle.gb_formats.specs.BridgeForms.{begins_with_at, bridging};
 ghost use Rattle.gb_script.specs.Parts.{asking_of};
-ghost use Rattle.gb_script.specs.Tells.{AsksFor, Says};
+ghost use Rattle.gb_script.specs.Tells.{AsksFor, Tells};
 
 use crate::rest::Rest;
 use crate::{LineFault, gpio, i2c, loopback, spi, uart};
@@ -38,18 +38,18 @@ pub fn request(
     rest: &Rest<'_>,
     who: u8,
     protocol: Protocol,
-) -> Result<Event, LineFault>
-    ensures { Says result (bridging who rest.now (asking_of protocol)) }
+) -> Result<Option<Event>, LineFault>
+    ensures { Tells result (bridging who rest.now (asking_of protocol)) }
 {
     let (name, rest) = rest.name(who)?;
     let (intf, cport, rest) = rest.intf_cport()?;
     let ask = asked(alloc, &rest, protocol)?;
-    Ok(Event::Bridge {
+    Ok(Some(Event::Bridge {
         name,
         intf,
         cport,
         ask,
-    })
+    }))
 }
 
 /// What is asked by the protocol.

@@ -3,7 +3,7 @@
 ghost use Rattle.std.specs.Prelude.{◌≡◌, false};
 ghost use Rattle.gb_formats.specs.Grammar.{by_first, is_comment};
 ghost use Rattle.gb_script.specs.Parts.{by_protocol};
-ghost use Rattle.gb_script.specs.Tells.{Says};
+ghost use Rattle.gb_script.specs.Tells.{Tells};
 
 use crate::LineFault;
 use crate::bridges::{Protocol, request};
@@ -19,13 +19,18 @@ use gb_base::{Event, LineReason};
 use std::alloc::Global;
 
 /// The event of a line with the first word `first` and the words of `rest` behind it.
-pub fn form(alloc: Global, first: &[u8], rest: &Rest<'_>, who: u8) -> Result<Event, LineFault>
+pub fn form(
+    alloc: Global,
+    first: &[u8],
+    rest: &Rest<'_>,
+    who: u8,
+) -> Result<Option<Event>, LineFault>
     requires words { is_comment first.now ≡ false }
-    ensures { Says result (by_first who first.now rest.now) }
+    ensures { Tells result (by_first who first.now rest.now) }
 {
     if is(first, "boot") {
         rest.end()?;
-        return Ok(Event::Boot);
+        return Ok(Some(Event::Boot));
     }
     if is(first, "insert") {
         return insert(alloc, rest);
@@ -50,7 +55,7 @@ pub fn form(alloc: Global, first: &[u8], rest: &Rest<'_>, who: u8) -> Result<Eve
     }
     if is(first, "hold") {
         let (intf, cport) = only_cport(rest)?;
-        return Ok(Event::Hold { intf, cport });
+        return Ok(Some(Event::Hold { intf, cport }));
     }
     if is(first, "answer") {
         return answer(rest);
@@ -78,14 +83,19 @@ pub fn form(alloc: Global, first: &[u8], rest: &Rest<'_>, who: u8) -> Result<Eve
     }
     if is(first, "show") {
         rest.end()?;
-        return Ok(Event::Show);
+        return Ok(Some(Event::Show));
     }
     bridged(alloc, first, rest, who)
 }
 
 /// The event of a line for a bridged protocol.
-fn bridged(alloc: Global, first: &[u8], rest: &Rest<'_>, who: u8) -> Result<Event, LineFault>
-    ensures { Says result (by_protocol who first.now rest.now) }
+fn bridged(
+    alloc: Global,
+    first: &[u8],
+    rest: &Rest<'_>,
+    who: u8,
+) -> Result<Option<Event>, LineFault>
+    ensures { Tells result (by_protocol who first.now rest.now) }
 {
     if is(first, "gpio") {
         return gpio(alloc, rest, who);

@@ -6,7 +6,7 @@ ghost use Rattle.gb_formats.specs.BridgeForms.{gpio_line, gpio_value};
 ghost use Rattle.gb_base.specs.declared.bridge.BridgeAsk.TheVariants as ask;
 ghost use Rattle.gb_formats.specs.Said.{at_end};
 ghost use Rattle.gb_formats.specs.WordValues.{u8_word, u16_word};
-ghost use Rattle.gb_script.specs.Tells.{AsksFor, Says};
+ghost use Rattle.gb_script.specs.Tells.{AsksFor, Tells};
 
 use crate::LineFault;
 use crate::bridges::{Protocol, begins_with_at, request};
@@ -17,32 +17,31 @@ use gb_bridge_payload::gpio_kinds;
 use std::alloc::Global;
 
 /// `gpio @x I C` and what is asked, or `gpio I C level L V`.
-pub fn gpio(alloc: Global, rest: &Rest<'_>, who: u8) -> Result<Event, LineFault>
-    ensures { Says result (gpio_form who rest.now) }
+pub fn gpio(alloc: Global, rest: &Rest<'_>, who: u8) -> Result<Option<Event>, LineFault>
+    ensures { Tells result (gpio_form who rest.now) }
 {
     let (word, _behind) = rest.next()?;
     if begins_with_at(word) {
-        request(alloc, rest, who, Protocol::Gpio)
-    } else {
-        outside_level(rest)
+        return request(alloc, rest, who, Protocol::Gpio);
     }
+    outside_level(rest)
 }
 
 /// `I C level L V` behind `gpio`.
-fn outside_level(rest: &Rest<'_>) -> Result<Event, LineFault>
-    ensures { Says result (gpio_level rest.now) }
+fn outside_level(rest: &Rest<'_>) -> Result<Option<Event>, LineFault>
+    ensures { Tells result (gpio_level rest.now) }
 {
     let (intf, cport, rest) = rest.intf_cport()?;
     let rest = rest.literal("level")?;
     let (line, rest) = rest.pin()?;
     let (value, rest) = rest.level()?;
     rest.end()?;
-    Ok(Event::Level {
+    Ok(Some(Event::Level {
         intf,
         cport,
         line,
         value,
-    })
+    }))
 }
 
 /// What a GPIO line asks.

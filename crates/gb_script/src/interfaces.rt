@@ -10,7 +10,7 @@ ghost use Rattle.gb_formats.specs.Grammar.{disconnecting, disconnecting_how, ins
 ghost use Rattle.gb_formats.specs.Grammar.{inserting_kinds, of_cport, of_intf};
 ghost use Rattle.gb_script.specs.Parts.{inserting_raw};
 ghost use Rattle.gb_formats.specs.Said.{Said};
-ghost use Rattle.gb_script.specs.Tells.{GoesOnByKind, Says, StopsAtKind, StopsBy};
+ghost use Rattle.gb_script.specs.Tells.{GoesOnByKind, StopsAtKind, StopsBy, Tells};
 
 use crate::LineFault;
 use crate::rest::Rest;
@@ -20,74 +20,73 @@ use gb_base::{Event, Kind, Kinds, LineReason};
 use std::alloc::Global;
 
 /// `insert I KIND ..`, with one to four kinds, or `insert I raw HEX`.
-pub fn insert(alloc: Global, rest: &Rest<'_>) -> Result<Event, LineFault>
-    ensures { Says result (inserting rest.now) }
+pub fn insert(alloc: Global, rest: &Rest<'_>) -> Result<Option<Event>, LineFault>
+    ensures { Tells result (inserting rest.now) }
 {
     let (intf, rest) = rest.intf()?;
     let (word, behind) = rest.next()?;
     if is(word, "raw") {
-        insert_raw(alloc, intf, &behind)
-    } else {
-        insert_kinds(intf, &rest)
+        return insert_raw(alloc, intf, &behind);
     }
+    insert_kinds(intf, &rest)
 }
 
 /// `HEX` behind `insert I raw`.
-fn insert_raw(alloc: Global, intf: u8, rest: &Rest<'_>) -> Result<Event, LineFault>
-    ensures { Says result (inserting_raw intf rest.now) }
+fn insert_raw(alloc: Global, intf: u8, rest: &Rest<'_>) -> Result<Option<Event>, LineFault>
+    ensures { Tells result (inserting_raw intf rest.now) }
 {
     let (manifest, rest) = rest.bytes(alloc)?;
     rest.end()?;
-    Ok(Event::InsertRaw { intf, manifest })
+    Ok(Some(Event::InsertRaw { intf, manifest }))
 }
 
 /// `KIND ..` behind `insert I`.
-fn insert_kinds(intf: u8, rest: &Rest<'_>) -> Result<Event, LineFault>
-    ensures { Says result (inserting_kinds intf rest.now) }
+fn insert_kinds(intf: u8, rest: &Rest<'_>) -> Result<Option<Event>, LineFault>
+    ensures { Tells result (inserting_kinds intf rest.now) }
 {
     let (kind, rest) = rest.kind()?;
     behind_one(intf, Kinds::one(kind), &rest)
 }
 
 /// Nothing, or a kind more, behind one kind.
-fn behind_one(intf: u8, kinds: Kinds, rest: &Rest<'_>) -> Result<Event, LineFault>
+fn behind_one(intf: u8, kinds: Kinds, rest: &Rest<'_>) -> Result<Option<Event>, LineFault>
     requires { length kinds ≤ 1 }
-    ensures { Says result (behind_one intf kinds rest.now) }
+    ensures { Tells result (behind_one intf kinds rest.now) }
 {
     let Some((kind, rest)) = next_kind(rest)? else {
-        return Ok(Event::Insert { intf, kinds });
+        return Ok(Some(Event::Insert { intf, kinds }));
     };
     behind_two(intf, with_kind(kinds, kind), &rest)
 }
 
 /// Nothing, or a kind more, behind two kinds.
-fn behind_two(intf: u8, kinds: Kinds, rest: &Rest<'_>) -> Result<Event, LineFault>
+fn behind_two(intf: u8, kinds: Kinds, rest: &Rest<'_>) -> Result<Option<Event>, LineFault>
     requires { length kinds ≤ 2 }
-    ensures { Says result (behind_two intf kinds rest.now) }
+    ensures { Tells result (behind_two intf kinds rest.now) }
 {
     let Some((kind, rest)) = next_kind(rest)? else {
-        return Ok(Event::Insert { intf, kinds });
+        return Ok(Some(Event::Insert { intf, kinds }));
     };
     behind_three(intf, with_kind(kinds, kind), &rest)
 }
 
 /// Nothing, or a kind more, behind three kinds.
-fn behind_three(intf: u8, kinds: Kinds, rest: &Rest<'_>) -> Result<Event, LineFault>
+fn behind_three(intf: u8, kinds: Kinds, rest: &Rest<'_>) -> Result<Option<Event>, LineFault>
     requires { length kinds ≤ 3 }
-    ensures { Says result (behind_three intf kinds rest.now) }
+    ensures { Tells result (behind_three intf kinds rest.now) }
 {
     let Some((kind, rest)) = next_kind(rest)? else {
-        return Ok(Event::Insert { intf, kinds });
+        return Ok(Some(Event::Insert { intf, kinds }));
     };
     behind_four(intf, with_kind(kinds, kind), &rest)
 }
 
 /// Nothing behind four kinds.
-fn behind_four(intf: u8, kinds: Kinds, rest: &Rest<'_>) -> Result<Event, LineFault>
-    ensures { Says result (behind_four intf kinds rest.now) }
+fn behind_four(intf: u8, kinds: Kinds, rest: &Rest<'_>) -> Result<Option<Event>, LineFault>
+    ensures { Tells result (behind_four intf kinds rest.now) }
 {
     rest.end()?;
-    Ok(Event::Insert { intf, kinds })
+    Ok(Some(Event::Insert { intf, kinds }))
 }
 
 /// The next word as a kind, and the words behind it. None where no word is left.
@@ -113,42 +112,42 @@ fn with_kind(mut kinds: Kinds, kind: Kind) -> Kinds
 }
 
 /// `pull I`.
-pub fn pull(rest: &Rest<'_>) -> Result<Event, LineFault>
-    ensures { Says result (of_intf event.Pull rest.now) }
+pub fn pull(rest: &Rest<'_>) -> Result<Option<Event>, LineFault>
+    ensures { Tells result (of_intf event.Pull rest.now) }
 {
     let (intf, rest) = rest.intf()?;
     rest.end()?;
-    Ok(Event::Pull { intf })
+    Ok(Some(Event::Pull { intf }))
 }
 
 /// `connect I C`.
-pub fn connect(rest: &Rest<'_>) -> Result<Event, LineFault>
-    ensures { Says result (of_cport event.Connect rest.now) }
+pub fn connect(rest: &Rest<'_>) -> Result<Option<Event>, LineFault>
+    ensures { Tells result (of_cport event.Connect rest.now) }
 {
     let (intf, cport) = only_cport(rest)?;
-    Ok(Event::Connect { intf, cport })
+    Ok(Some(Event::Connect { intf, cport }))
 }
 
 /// `disconnect I C`, or `disconnect I C drain`.
-pub fn disconnect(rest: &Rest<'_>) -> Result<Event, LineFault>
-    ensures { Says result (disconnecting rest.now) }
+pub fn disconnect(rest: &Rest<'_>) -> Result<Option<Event>, LineFault>
+    ensures { Tells result (disconnecting rest.now) }
 {
     let (intf, cport, rest) = rest.intf_cport()?;
     disconnect_how(intf, cport, &rest)
 }
 
 /// `drain`, or nothing, behind `disconnect I C`.
-fn disconnect_how(intf: u8, cport: u16, rest: &Rest<'_>) -> Result<Event, LineFault>
-    ensures { Says result (disconnecting_how intf cport rest.now) }
+fn disconnect_how(intf: u8, cport: u16, rest: &Rest<'_>) -> Result<Option<Event>, LineFault>
+    ensures { Tells result (disconnecting_how intf cport rest.now) }
 {
     let Some((word, behind)) = rest.split_first() else {
-        return Ok(Event::Disconnect { intf, cport });
+        return Ok(Some(Event::Disconnect { intf, cport }));
     };
     if !is(word, "drain") {
         return Err(LineFault::Bad(rest.extra_word()));
     }
     behind.end()?;
-    Ok(Event::Drain { intf, cport })
+    Ok(Some(Event::Drain { intf, cport }))
 }
 
 /// `I C` as the only words behind the first.

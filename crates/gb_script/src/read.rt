@@ -23,5 +23,5 @@ pub fn event(alloc: Global, line: &[u8], who: u8) -> Result<Option<Event>, LineF
         return Ok(None);
     }
     let rest = Rest::behind_first(rest);
-    Ok(Some(form(alloc, first, &rest, who)?))
+    form(alloc, first, &rest, who)
 }

@@ -254,6 +254,7 @@ impl<'a> Rest<'a> {
     }
 
     /// `@x`: a name of requester `who`.
+    #[inline(always)]
     pub fn name(&self, who: u8) -> Result<(Name, Rest<'a>), LineReason>
         ensures { MatchResult result
             (λ f. GoesOn (name_word who) self.now f.0 f.1)

@@ -4,7 +4,7 @@ ghost use Rattle.std.specs.Prelude.{◌≡◌};
 ghost use Rattle.gb_formats.specs.BridgeForms.{uart_asking, uart_byte, uart_coding};
 ghost use Rattle.gb_formats.specs.BridgeForms.{uart_form, uart_state};
 ghost use Rattle.gb_script.specs.Parts.{uart_data};
-ghost use Rattle.gb_script.specs.Tells.{AsksFor, Says};
+ghost use Rattle.gb_script.specs.Tells.{AsksFor, Tells};
 
 use crate::LineFault;
 use crate::bridges::{Protocol, begins_with_at, request};
@@ -15,30 +15,29 @@ use gb_bridge_payload::uart_kinds;
 use std::alloc::Global;
 
 /// `uart @x I C` and what is asked, or `uart I C state V`.
-pub fn uart(alloc: Global, rest: &Rest<'_>, who: u8) -> Result<Event, LineFault>
-    ensures { Says result (uart_form who rest.now) }
+pub fn uart(alloc: Global, rest: &Rest<'_>, who: u8) -> Result<Option<Event>, LineFault>
+    ensures { Tells result (uart_form who rest.now) }
 {
     let (word, _behind) = rest.next()?;
     if begins_with_at(word) {
-        request(alloc, rest, who, Protocol::Uart)
-    } else {
-        serial_state(rest)
+        return request(alloc, rest, who, Protocol::Uart);
     }
+    serial_state(rest)
 }
 
 /// `I C state V` behind `uart`.
-fn serial_state(rest: &Rest<'_>) -> Result<Event, LineFault>
-    ensures { Says result (uart_state rest.now) }
+fn serial_state(rest: &Rest<'_>) -> Result<Option<Event>, LineFault>
+    ensures { Tells result (uart_state rest.now) }
 {
     let (intf, cport, rest) = rest.intf_cport()?;
     let rest = rest.literal("state")?;
     let (control, rest) = rest.byte()?;
     rest.end()?;
-    Ok(Event::SerialState {
+    Ok(Some(Event::SerialState {
         intf,
         cport,
         control,
-    })
+    }))
 }
 
 /// What a UART line asks.
