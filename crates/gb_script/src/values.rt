@@ -1,9 +1,8 @@
 //! What single words mean: numbers, names and kinds of interface.
 
-ghost use Rattle.std.specs.Prelude.{◌≡◌, ◌≤◌, IfSome};
-ghost use Rattle.std.specs.List.{list_all};
-ghost use Rattle.gb_formats.specs.WordValues.{is_digit, is_number};
-ghost use Rattle.gb_formats.specs.WordValues.{kind_word, name_word, number_word};
+ghost use Rattle.std.specs.Prelude.{◌≡◌, ◌≤◌, ◌==◌, ◌&&◌, ◌||◌, nat_lt, length, slice_index};
+ghost use Rattle.std.specs.Prelude.{IfSome};
+ghost use Rattle.gb_formats.specs.WordValues.{is_digit, kind_word, name_word, number_word};
 
 use crate::words::is;
 use gb_base::{Kind, Name, Word};
@@ -13,11 +12,14 @@ pub fn number_word(word: &[u8], least: u32, greatest: u32) -> Option<u32>
     ensures value { result ≡ number_word least greatest word.now }
     ensures bound { IfSome result (λ n. n ≤ greatest) }
 {
-    if !is_number(word) {
+    if !begins_number(word) {
         return None;
     }
     let mut number: u64 = 0;
     for b in word {
+        if !is_digit(*b) {
+            return None;
+        }
         number = number * 10 + u64::from(*b - b'0');
         if number > u64::from(greatest) {
             return None;
@@ -26,18 +28,12 @@ pub fn number_word(word: &[u8], least: u32, greatest: u32) -> Option<u32>
     (u64::from(least) <= number).then_some(number as u32)
 }
 
-/// Whether the word is decimal, with no sign and no leading zero but `0` itself.
-fn is_number(word: &[u8]) -> bool
-    ensures { result ≡ is_number word.now }
+/// Whether the word has a byte, and no leading zero but `0` itself.
+fn begins_number(word: &[u8]) -> bool
+    ensures { result ≡ (nat_lt 0 (length word.now)
+        && (nat_lt 48 (slice_index word.now 0) || length word.now == 1)) }
 {
-    !word.is_empty() && are_digits(word) && (word[0] > b'0' || word.len() == 1)
-}
-
-/// Whether the word has digits alone.
-fn are_digits(word: &[u8]) -> bool
-    ensures { result ≡ list_all is_digit word.now }
-{
-    word.iter().all(|b| is_digit(*b))
+    !word.is_empty() && (word[0] > b'0' || word.len() == 1)
 }
 
 /// Whether the byte is a digit.
