@@ -1,4 +1,3 @@
-pub mod Cuts
 pub mod Handed
 pub mod HexWords
 pub mod LineBuffers

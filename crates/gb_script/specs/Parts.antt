@@ -15,7 +15,7 @@ use Rattle.gb_formats.specs.BridgeForms.{gpio_asking, gpio_form, i2c_asking, i2c
 use Rattle.gb_formats.specs.BridgeForms.{loopback_asking, loopback_form}
 use Rattle.gb_formats.specs.BridgeForms.{spi_asking, spi_form, uart_asking, uart_form}
 use Rattle.gb_formats.specs.Grammar.{of_cport, timed}
-use Rattle.gb_formats.specs.Said.{Said, Rest, next_word, at_end, each_word}
+use Rattle.gb_formats.specs.Said.{Said, Rest, next_cport, next_word, at_end, each_word}
 use Rattle.gb_formats.specs.WordValues.{hex_word, cport_word, type_word, u8_word, u16_word}
 use Rattle.gb_script.specs.declared.bridges.Protocol.{Protocol}
 use Rattle.gb_script.specs.declared.bridges.Protocol.TheVariants as protocol
@@ -62,6 +62,10 @@ spi_both_word w = option_map spi.Both (hex_word (drop 2 w))
 abbrev pub uart_data : (BridgeAsk → Event) → Rest → Said
 uart_data make ws =
     next_word hex_word ws (λ bytes ws. at_end ws (make (ask.UartSend bytes)))
+
+-- `I C` and what is asked, behind the name of a request
+abbrev pub bridging_of : Name → Rest → ((BridgeAsk → Event) → Rest → Said) → Said
+bridging_of x ws asking = next_cport ws (λ i c ws. asking (λ what. event.Bridge x i c what) ws)
 
 -- what the words ask by a bridged protocol
 abbrev pub asking_of : Protocol → (BridgeAsk → Event) → Rest → Said

@@ -2,12 +2,12 @@
 
 ghost use Rattle.std.specs.Prelude.{◌≡◌};
 ghost use Rattle.gb_formats.specs.BridgeForms.{begins_with_at, bridging};
-ghost use Rattle.gb_script.specs.Parts.{asking_of};
+ghost use Rattle.gb_script.specs.Parts.{asking_of, bridging_of};
 ghost use Rattle.gb_script.specs.Tells.{AsksFor, Tells};
 
 use crate::rest::Rest;
 use crate::{LineFault, gpio, i2c, loopback, spi, uart};
-use gb_base::{BridgeAsk, Event};
+use gb_base::{BridgeAsk, Event, Name};
 use std::alloc::Global;
 
 /// A bridged protocol.
@@ -42,6 +42,18 @@ pub fn request(
     ensures { Tells result (bridging who rest.now (asking_of protocol)) }
 {
     let (name, rest) = rest.name(who)?;
+    request_of(alloc, name, &rest, protocol)
+}
+
+/// `I C`, and what is asked by the protocol, behind the name.
+pub fn request_of(
+    alloc: Global,
+    name: Name,
+    rest: &Rest<'_>,
+    protocol: Protocol,
+) -> Result<Option<Event>, LineFault>
+    ensures { Tells result (bridging_of name rest.now (asking_of protocol)) }
+{
     let (intf, cport, rest) = rest.intf_cport()?;
     let ask = asked(alloc, &rest, protocol)?;
     Ok(Some(Event::Bridge {

@@ -1,7 +1,8 @@
-//! The forms of lines, by the first word.
+//! The event of a line, by its first word.
 
-ghost use Rattle.std.specs.Prelude.{◌≡◌, false};
+ghost use Rattle.std.specs.Prelude.{◌≡◌, ℕ, false, None, Ok, Err, MatchOption, MatchResult};
 ghost use Rattle.gb_formats.specs.Grammar.{by_first, is_comment};
+ghost use Rattle.gb_formats.specs.Script.{judged};
 ghost use Rattle.gb_script.specs.Parts.{by_protocol};
 ghost use Rattle.gb_script.specs.Tells.{Tells};
 
@@ -11,23 +12,22 @@ use crate::deliveries::{answer, deliver, inject, settle, tick};
 use crate::firmware::{image, load};
 use crate::gpio::gpio;
 use crate::interfaces::{connect, disconnect, insert, only_cport, pull};
+use crate::plain_line::plain_line;
 use crate::requests::{cancel, copy, forget, send};
 use crate::rest::Rest;
 use crate::uart::uart;
-use crate::words::is;
+use crate::words::{first_word, is};
 use gb_base::{Event, LineReason};
 use std::alloc::Global;
 
-/// The event of a line with the first word `first` and the words of `rest` behind it.
-pub fn form(
-    alloc: Global,
-    first: &[u8],
-    rest: &Rest<'_>,
-    who: u8,
-) -> Result<Option<Event>, LineFault>
-    requires words { is_comment first.now ≡ false }
-    ensures { Tells result (by_first who first.now rest.now) }
+/// The event of a line, None for a blank or comment line. `who` is the requester.
+pub fn event(alloc: Global, line: &[u8], who: u8) -> Result<Option<Event>, LineFault>
+    ensures { Tells result (judged who line.now) }
 {
+    let Some((first, rest)) = words_of(line)? else {
+        return Ok(None);
+    };
+    let rest = &rest;
     if is(first, "boot") {
         rest.end()?;
         return Ok(Some(Event::Boot));
@@ -86,6 +86,24 @@ pub fn form(
         return Ok(Some(Event::Show));
     }
     bridged(alloc, first, rest, who)
+}
+
+/// The first word of a line and the words behind it, None for a blank or comment line.
+fn words_of(line: &[u8]) -> Result<Option<(&[u8], Rest<'_>)>, LineReason>
+    ensures { MatchResult result
+        (λ found. MatchOption found ((who : ℕ) → judged who line.now ≡ Ok None)
+        (λ f. (is_comment f.0.now ≡ false)
+        × ((who : ℕ) → judged who line.now ≡ by_first who f.0.now f.1)))
+        (λ why. (who : ℕ) → judged who line.now ≡ Err why) }
+{
+    plain_line(line)?;
+    let Some((first, rest)) = first_word(line) else {
+        return Ok(None);
+    };
+    if first.first() == Some(&b'#') {
+        return Ok(None);
+    }
+    Ok(Some((first, Rest::behind_first(rest))))
 }
 
 /// The event of a line for a bridged protocol.

@@ -9,8 +9,9 @@ ghost use Rattle.gb_formats.specs.WordValues.{u8_word, u16_word};
 ghost use Rattle.gb_script.specs.Tells.{AsksFor, Tells};
 
 use crate::LineFault;
-use crate::bridges::{Protocol, begins_with_at, request};
+use crate::bridges::{Protocol, begins_with_at, request_of};
 use crate::rest::Rest;
+use crate::values::name_word;
 use crate::words::is;
 use gb_base::{BridgeAsk, Event};
 use gb_bridge_payload::gpio_kinds;
@@ -20,11 +21,12 @@ use std::alloc::Global;
 pub fn gpio(alloc: Global, rest: &Rest<'_>, who: u8) -> Result<Option<Event>, LineFault>
     ensures { Tells result (gpio_form who rest.now) }
 {
-    let (word, _behind) = rest.next()?;
-    if begins_with_at(word) {
-        return request(alloc, rest, who, Protocol::Gpio);
+    let (word, behind) = rest.next()?;
+    if !begins_with_at(word) {
+        return outside_level(rest);
     }
-    outside_level(rest)
+    let (name, behind) = rest.fits(name_word(word, who), behind)?;
+    request_of(alloc, name, &behind, Protocol::Gpio)
 }
 
 /// `I C level L V` behind `gpio`.
@@ -50,32 +52,42 @@ pub fn asked(rest: &Rest<'_>) -> Result<BridgeAsk, LineFault>
 {
     let (word, behind) = rest.next()?;
     if is(word, "count") {
-        of_none(&behind, gpio_kinds::LINE_COUNT)
-    } else if is(word, "activate") {
-        of_line(&behind, gpio_kinds::ACTIVATE)
-    } else if is(word, "deactivate") {
-        of_line(&behind, gpio_kinds::DEACTIVATE)
-    } else if is(word, "direction") {
-        of_line(&behind, gpio_kinds::GET_DIRECTION)
-    } else if is(word, "in") {
-        of_line(&behind, gpio_kinds::DIRECTION_IN)
-    } else if is(word, "out") {
-        of_byte(&behind, gpio_kinds::DIRECTION_OUT)
-    } else if is(word, "get") {
-        of_line(&behind, gpio_kinds::GET_VALUE)
-    } else if is(word, "set") {
-        of_byte(&behind, gpio_kinds::SET_VALUE)
-    } else if is(word, "debounce") {
-        of_two_bytes(&behind, gpio_kinds::SET_DEBOUNCE)
-    } else if is(word, "irq") {
-        of_byte(&behind, gpio_kinds::IRQ_TYPE)
-    } else if is(word, "mask") {
-        of_line(&behind, gpio_kinds::IRQ_MASK)
-    } else if is(word, "unmask") {
-        of_line(&behind, gpio_kinds::IRQ_UNMASK)
-    } else {
-        Err(LineFault::Bad(rest.bad_word()))
+        return of_none(&behind, gpio_kinds::LINE_COUNT);
     }
+    if is(word, "activate") {
+        return of_line(&behind, gpio_kinds::ACTIVATE);
+    }
+    if is(word, "deactivate") {
+        return of_line(&behind, gpio_kinds::DEACTIVATE);
+    }
+    if is(word, "direction") {
+        return of_line(&behind, gpio_kinds::GET_DIRECTION);
+    }
+    if is(word, "in") {
+        return of_line(&behind, gpio_kinds::DIRECTION_IN);
+    }
+    if is(word, "out") {
+        return of_byte(&behind, gpio_kinds::DIRECTION_OUT);
+    }
+    if is(word, "get") {
+        return of_line(&behind, gpio_kinds::GET_VALUE);
+    }
+    if is(word, "set") {
+        return of_byte(&behind, gpio_kinds::SET_VALUE);
+    }
+    if is(word, "debounce") {
+        return of_two_bytes(&behind, gpio_kinds::SET_DEBOUNCE);
+    }
+    if is(word, "irq") {
+        return of_byte(&behind, gpio_kinds::IRQ_TYPE);
+    }
+    if is(word, "mask") {
+        return of_line(&behind, gpio_kinds::IRQ_MASK);
+    }
+    if is(word, "unmask") {
+        return of_line(&behind, gpio_kinds::IRQ_UNMASK);
+    }
+    Err(LineFault::Bad(rest.bad_word()))
 }
 
 /// A request without a line.

@@ -7,9 +7,9 @@ ghost use Rattle.gb_formats.specs.Words.{words};
 ghost use Rattle.gb_script.specs.PartLines.{AreRising, AreValidLines, TellsHeading, TellsPart};
 
 use crate::LineFault;
+use crate::forms::event;
 use crate::lines::first_line;
 use crate::plain_line::plain_line;
-use crate::read::event;
 use crate::values::number_word;
 use crate::words::{first_word, is};
 use gb_base::{Asked, Event, LineReason, OutOfMemory, Parts, Sequence};

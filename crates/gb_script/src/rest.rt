@@ -115,7 +115,7 @@ impl<'a> Rest<'a> {
     }
 
     /// What the next word means, and the words behind it, or that the word is bad.
-    fn fits<T: Drop>(
+    pub fn fits<T: Drop>(
         &self,
         meaning: Option<T>,
         behind: Rest<'a>,

@@ -7,8 +7,9 @@ ghost use Rattle.gb_script.specs.Parts.{uart_data};
 ghost use Rattle.gb_script.specs.Tells.{AsksFor, Tells};
 
 use crate::LineFault;
-use crate::bridges::{Protocol, begins_with_at, request};
+use crate::bridges::{Protocol, begins_with_at, request_of};
 use crate::rest::Rest;
+use crate::values::name_word;
 use crate::words::is;
 use gb_base::{BridgeAsk, Event};
 use gb_bridge_payload::uart_kinds;
@@ -18,11 +19,12 @@ use std::alloc::Global;
 pub fn uart(alloc: Global, rest: &Rest<'_>, who: u8) -> Result<Option<Event>, LineFault>
     ensures { Tells result (uart_form who rest.now) }
 {
-    let (word, _behind) = rest.next()?;
-    if begins_with_at(word) {
-        return request(alloc, rest, who, Protocol::Uart);
+    let (word, behind) = rest.next()?;
+    if !begins_with_at(word) {
+        return serial_state(rest);
     }
-    serial_state(rest)
+    let (name, behind) = rest.fits(name_word(word, who), behind)?;
+    request_of(alloc, name, &behind, Protocol::Uart)
 }
 
 /// `I C state V` behind `uart`.
@@ -46,18 +48,21 @@ pub fn asked(alloc: Global, rest: &Rest<'_>) -> Result<BridgeAsk, LineFault>
 {
     let (word, behind) = rest.next()?;
     if is(word, "send") {
-        data(alloc, &behind)
-    } else if is(word, "coding") {
-        coding(&behind)
-    } else if is(word, "control") {
-        of_byte(&behind, uart_kinds::SET_CONTROL_LINE_STATE)
-    } else if is(word, "break") {
-        of_byte(&behind, uart_kinds::SEND_BREAK)
-    } else if is(word, "flush") {
-        of_byte(&behind, uart_kinds::FLUSH_FIFOS)
-    } else {
-        Err(LineFault::Bad(rest.bad_word()))
+        return data(alloc, &behind);
     }
+    if is(word, "coding") {
+        return coding(&behind);
+    }
+    if is(word, "control") {
+        return of_byte(&behind, uart_kinds::SET_CONTROL_LINE_STATE);
+    }
+    if is(word, "break") {
+        return of_byte(&behind, uart_kinds::SEND_BREAK);
+    }
+    if is(word, "flush") {
+        return of_byte(&behind, uart_kinds::FLUSH_FIFOS);
+    }
+    Err(LineFault::Bad(rest.bad_word()))
 }
 
 /// `HEX` behind `send`.

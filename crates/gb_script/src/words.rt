@@ -12,28 +12,18 @@ pub fn first_word(line: &[u8]) -> Option<(&[u8], &[u8])>
     ensures shorter { IfSome result (λ f. length f.1.now < length line.now) }
     ensures within { IfSome result (λ f. length f.0.now ≤ length line.now) }
 {
-    for (i, b) in line.iter().enumerate() {
-        if *b != b' ' {
-            return Some(cut(&line[i..]));
-        }
+    let mut start = 0;
+    while start < line.len() && line[start] == b' ' {
+        start += 1;
     }
-    None
-}
-
-/// The word that a line begins with, and the line behind it.
-fn cut(line: &[u8]) -> (&[u8], &[u8])
-    requires some { 0 < length line.now }
-    requires begins { slice_index line.now 0 ≢ 32 }
-    ensures cut { words line.now ≡ result.0.now ∷ words result.1.now }
-    ensures shorter { length result.1.now < length line.now }
-    ensures within { length result.0.now ≤ length line.now }
-{
-    for (i, b) in line.iter().enumerate() {
-        if *b == b' ' {
-            return (&line[..i], &line[i + 1..]);
-        }
+    if start == line.len() {
+        return None;
     }
-    (line, &[])
+    let mut end = start;
+    while end < line.len() && line[end] != b' ' {
+        end += 1;
+    }
+    Some((&line[start..end], &line[(end + 1).min(line.len())..]))
 }
 
 /// Whether a word is this one.
