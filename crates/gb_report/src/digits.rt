@@ -17,7 +17,7 @@ impl Part for Hex {
 
     ghost text = { λ b. byte_text b.0 };
 
-    #[inline]
+    #[inline(always)]
     fn append_to(&self, line: &mut String) -> Result<(), OutOfMemory> {
         append_byte(self.0, line)
     }
@@ -32,6 +32,7 @@ impl<'a> Part for Digits<'a> {
 
     ghost text = { λ d. hex_text d.0.now };
 
+    #[inline(always)]
     fn append_to(&self, line: &mut String) -> Result<(), OutOfMemory> {
         if self.0.is_empty() {
             "-".append_to(line)
@@ -42,6 +43,7 @@ impl<'a> Part for Digits<'a> {
 }
 
 /// Appends bytes as two hex digits each.
+#[inline(never)]
 fn append_bytes(bytes: &[u8], line: &mut String) -> Result<(), OutOfMemory>
     ensures { OnOk result
         (string_bytes line.new ≡ string_bytes line.old ++ encode_lower bytes.now) }
@@ -53,7 +55,7 @@ fn append_bytes(bytes: &[u8], line: &mut String) -> Result<(), OutOfMemory>
 }
 
 /// Appends a byte as two hex digits.
-#[inline]
+#[inline(always)]
 fn append_byte(byte: u8, line: &mut String) -> Result<(), OutOfMemory>
     ensures { OnOk result (string_bytes line.new ≡ string_bytes line.old ++ byte_text byte) }
 {

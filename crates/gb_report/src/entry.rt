@@ -142,6 +142,7 @@ fn append_request(entry: &Entry, out: &mut String) -> Result<(), OutOfMemory>
 }
 
 /// Appends the line of injected bytes, or of what comes of them.
+#[inline(never)]
 fn append_raw(entry: &Entry, hex: bool, out: &mut String) -> Result<(), OutOfMemory>
     requires { is_raw entry.now ≡ true }
     ensures { (line : ℕ) → OnOk result
@@ -217,6 +218,7 @@ fn append_link(entry: &Entry, out: &mut String) -> Result<(), OutOfMemory>
 }
 
 /// Appends the line of what a device told.
+#[inline(never)]
 fn append_device(entry: &Entry, out: &mut String) -> Result<(), OutOfMemory>
     requires { is_device entry.now ≡ true }
     ensures text { (line : ℕ) (hex : Bool) → OnOk result

@@ -29,17 +29,19 @@ impl<A: Part, B: Part> Part for (A, B) {
 
     ghost text = { λ p. A.text p.0 ++ B.text p.1 };
 
-    #[inline]
+    #[inline(always)]
     fn append_to(&self, line: &mut String) -> Result<(), OutOfMemory> {
-        self.0.append_to(line)?;
-        self.1.append_to(line)
+        match self.0.append_to(line) {
+            Ok(()) => self.1.append_to(line),
+            Err(why) => refused(why),
+        }
     }
 }
 
 impl<P: Part> Part for &P {
     ghost text = { λ p. P.text p.now };
 
-    #[inline]
+    #[inline(always)]
     fn append_to(&self, line: &mut String) -> Result<(), OutOfMemory> {
         (**self).append_to(line)
     }
@@ -48,7 +50,7 @@ impl<P: Part> Part for &P {
 impl Part for &str {
     ghost text = { λ s. s.now };
 
-    #[inline]
+    #[inline(always)]
     fn append_to(&self, line: &mut String) -> Result<(), OutOfMemory> {
         line.push_str(*self)?;
         Ok(())
@@ -60,7 +62,7 @@ impl Part for u8 {
 
     ghost text = { decimal };
 
-    #[inline]
+    #[inline(always)]
     fn append_to(&self, line: &mut String) -> Result<(), OutOfMemory> {
         append_decimal(*self as u64, line)
     }
@@ -71,7 +73,7 @@ impl Part for u16 {
 
     ghost text = { decimal };
 
-    #[inline]
+    #[inline(always)]
     fn append_to(&self, line: &mut String) -> Result<(), OutOfMemory> {
         append_decimal(*self as u64, line)
     }
@@ -82,7 +84,7 @@ impl Part for u32 {
 
     ghost text = { decimal };
 
-    #[inline]
+    #[inline(always)]
     fn append_to(&self, line: &mut String) -> Result<(), OutOfMemory> {
         append_decimal(*self as u64, line)
     }
@@ -93,26 +95,44 @@ impl Part for u64 {
 
     ghost text = { decimal };
 
-    #[inline]
+    #[inline(always)]
     fn append_to(&self, line: &mut String) -> Result<(), OutOfMemory> {
         append_decimal(*self, line)
     }
 }
 
+/// A refusal, which is seldom.
+#[cold]
+#[inline(never)]
+fn refused(why: OutOfMemory) -> Result<(), OutOfMemory>
+    ensures { result ≡ Err why }
+{
+    Err(why)
+}
+
 /// Appends a number in decimal digits.
+#[inline(always)]
 fn append_decimal(number: u64, line: &mut String) -> Result<(), OutOfMemory>
     ensures { OnOk result (string_bytes line.new ≡ string_bytes line.old ++ decimal number) }
 {
     if number < 10 {
         return append_ascii(b'0' + number as u8, line);
     }
+    append_digits(number, line)
+}
+
+/// Appends a number in decimal digits, however many they are.
+#[inline(never)]
+fn append_digits(number: u64, line: &mut String) -> Result<(), OutOfMemory>
+    ensures { OnOk result (string_bytes line.new ≡ string_bytes line.old ++ decimal number) }
+{
     let mut buffer = itoa::Buffer::new();
     line.push_str(buffer.format(number))?;
     Ok(())
 }
 
 /// Appends an ASCII byte.
-#[inline]
+#[inline(always)]
 pub fn append_ascii(byte: u8, line: &mut String) -> Result<(), OutOfMemory>
     requires { byte < 128 }
     ensures { OnOk result (string_bytes line.new ≡ string_bytes line.old ++ byte ∷ []) }

@@ -15,6 +15,7 @@ impl Part for End {
 
     ghost text = { end_text };
 
+    #[inline(always)]
     fn append_to(&self, line: &mut String) -> Result<(), OutOfMemory> {
         match self {
             End::Ap(a) => parts!("ap ", a).append_to(line),
@@ -33,6 +34,7 @@ impl Part for Way {
 
     ghost text = { λ w. way_text w.0 w.1 };
 
+    #[inline(always)]
     fn append_to(&self, line: &mut String) -> Result<(), OutOfMemory> {
         parts!(&self.0, " > ", &self.1).append_to(line)
     }
@@ -47,6 +49,7 @@ impl Part for Item {
 
     ghost text = { λ i. item_text i.0 };
 
+    #[inline(always)]
     fn append_to(&self, line: &mut String) -> Result<(), OutOfMemory> {
         match self.0 {
             Some(n) => parts!("#", n).append_to(line),
@@ -88,6 +91,7 @@ impl<'a> Part for Size<'a> {
 
     ghost text = { λ s. size_text s.hex s.size s.bytes.now };
 
+    #[inline(always)]
     fn append_to(&self, line: &mut String) -> Result<(), OutOfMemory> {
         if self.hex {
             parts!(self.size, " ", Digits(self.bytes.items())).append_to(line)
