@@ -1,7 +1,7 @@
--- Digits that are appended: those of a number below ten, and those of bytes in hex.
+-- Digits that are appended: those of a number below a hundred, and those of bytes in hex.
 use Rattle.std.proofs.Common.{◌≡◌, ℕ, ◌+◌, ◌<◌, ◌≤◌, ◌/◌, ◌%◌, List, [], ◌∷◌, ◌++◌, length, drop}
-use Rattle.std.proofs.Common.{refl, sym, ap, ◌∙◌, append_assoc, append-nil, slice_index}
-use Rattle.std.proofs.lemmas.Fmt.{decimal_digit}
+use Rattle.std.proofs.Common.{refl, sym, ap, ◌∙◌, append_assoc, append-nil, slice_index, arith}
+use Rattle.std.proofs.lemmas.Fmt.{decimal_digit, decimal_step}
 use Rattle.std.proofs.lemmas.List.{drop_all}
 use Rattle.std.specs.Fmt.{decimal}
 use Rattle.hex.specs.Hex.{encode_lower, encode_with, lower_digits}
@@ -13,6 +13,18 @@ pub digit_appended : (old new : List ℕ) (digit n : ℕ) → n < 10 → digit �
     → new ≡ old ++ digit ∷ [] → new ≡ old ++ decimal n
 digit_appended old new digit n h is added =
     added ∙ ap (λ ds. old ++ ds) (ap (λ d. d ∷ []) is ∙ sym (decimal_digit n h))
+
+two_digits : (n : ℕ) → 10 ≤ n → n < 100 → decimal n ≡ (48 + n / 10) ∷ (48 + n % 10) ∷ []
+two_digits n low high =
+    decimal_step n low (omega (arith, high))
+    ∙ ap (λ ds. ds ++ (48 + n % 10) ∷ []) (decimal_digit (n / 10) (omega (arith, high)))
+
+-- both digits of a number below a hundred were appended
+pub pair_appended : (old line new : List ℕ) (tens ones n : ℕ) → 10 ≤ n → n < 100
+    → tens ≡ 48 + n / 10 → ones ≡ 48 + n % 10
+    → line ≡ old ++ tens ∷ [] → new ≡ line ++ ones ∷ [] → new ≡ old ++ decimal n
+pair_appended old line new tens ones n low high t o first second =
+    rw (second, first, append_assoc, t, o, two_digits n low high) refl
 
 byte_digits : (b : ℕ) → byte_text b
     ≡ slice_index lower_digits (b / 16) ∷ slice_index lower_digits (b % 16) ∷ []

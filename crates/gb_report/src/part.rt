@@ -1,6 +1,6 @@
 //! What a line is made of: parts that append themselves to it, one behind the other.
 
-ghost use Rattle.std.specs.Prelude.{◌≡◌, ◌<◌, [], ◌∷◌, ◌++◌, ℕ, List, OnOk};
+ghost use Rattle.std.specs.Prelude.{◌≡◌, ◌<◌, ◌≤◌, [], ◌∷◌, ◌++◌, ℕ, List, OnOk};
 ghost use Rattle.std.specs.Fmt.{decimal};
 ghost use Rattle.std.specs.String.{string_bytes};
 
@@ -118,7 +118,22 @@ fn append_decimal(number: u64, line: &mut String) -> Result<(), OutOfMemory>
     if number < 10 {
         return append_ascii(b'0' + number as u8, line);
     }
+    if number < 100 {
+        return append_pair(number as u8, line);
+    }
     append_digits(number, line)
+}
+
+/// Appends a number of two decimal digits.
+#[inline(always)]
+fn append_pair(number: u8, line: &mut String) -> Result<(), OutOfMemory>
+    requires { (10 ≤ number) × (number < 100) }
+    ensures { OnOk result (string_bytes line.new ≡ string_bytes line.old ++ decimal number) }
+{
+    match append_ascii(b'0' + number / 10, line) {
+        Ok(()) => append_ascii(b'0' + number % 10, line),
+        Err(why) => refused(why),
+    }
 }
 
 /// Appends a number in decimal digits, however many they are.
