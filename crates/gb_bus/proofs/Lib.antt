@@ -55,6 +55,7 @@ pub mod SlotLists
 pub mod SlotMaps
 pub mod SlotNew
 pub mod SlotOver
+pub mod SlotTimes
 pub mod Standing
 pub mod Taken
 pub mod Waits

@@ -1,6 +1,5 @@
 -- What is kept after one slot changes or goes, and the counts with it.
-use Rattle.std.proofs.Common.{◌≡◌, ◌≢◌, ℕ, ◌+◌, ◌-◌, ◌≤◌, Bool, true, false, ◌&&◌, cond}
-use Rattle.std.proofs.Common.{Option, Some, None, eqb, length}
+use Rattle.std.proofs.Common.{◌≡◌, ◌≢◌, ℕ, ◌-◌, ◌≤◌, true, false, cond, Option, Some, None, eqb}
 use Rattle.std.proofs.Common.{nat_lt, refl, sym, ap, subst, ◌∙◌, arith}
 use Rattle.std.proofs.lemmas.Bool.{both_ways, or_parts}
 use Rattle.std.specs.Option.{is_none, option_and_then}
@@ -9,24 +8,19 @@ use Rattle.slab.specs.Slab.{Slab, Updates, with_value}
 use Rattle.slab.proofs.SlabLemmas.{Updates-with_value}
 use Rattle.gb_base.specs.declared.outcome.Outcome.{Outcome}
 use Rattle.gb_base.specs.declared.outcome.Outcome.TheVariants as outcome
-use Rattle.gb_bus.proofs.SlotMaps.{AllPlaced, FindsAt, Retimed}
+use Rattle.gb_bus.proofs.SlotMaps.{AllPlaced, FindsAt}
 use Rattle.gb_bus.proofs.SlotMaps.{changed, changed-placed, each-number, finds-here, finds-other}
 use Rattle.gb_bus.proofs.SlotMaps.{found, found-at, gone, gone-placed, none-some, other-number}
-use Rattle.gb_bus.proofs.SlotMaps.{same-number, same-some, time-here, time-others}
+use Rattle.gb_bus.proofs.SlotMaps.{same-some}
+use Rattle.gb_bus.proofs.SlotTimes.{some-waits, stays-same, timed-ended, timed-same}
 use Rattle.gb_bus.specs.Counting.{counted_once, one_ended}
-use Rattle.gb_bus.specs.Keeping.{Deadlines, IsKept, Places, has_deadline, is_let_go, kept_in}
-use Rattle.gb_bus.specs.Keeping.{waits_until}
+use Rattle.gb_bus.specs.Keeping.{AreTimed, IsKept, IsNext, Places, Removes, deadline_of}
+use Rattle.gb_bus.specs.Keeping.{is_let_go, kept_in, time_of}
 use Rattle.gb_bus.specs.Slots.{ChangesAt, SlotsKept, MovesAt, is_asked_for, is_open_slot}
+use Rattle.gb_bus.specs.declared.deadlines.Deadlines.{Deadlines}
 use Rattle.gb_bus.specs.declared.slots.Slot.{Slot}
 use Rattle.gb_bus.specs.declared.tally.Tally.{Tally}
 use Rattle.gb_table.specs.Table.{Puts, item_at}
-
--- the deadlines of one number are those of this slot, and of the others those that were
-abbrev pub TimesAt : ℕ → Option Slot → Deadlines → Deadlines → Type 0
-TimesAt n o d d2 =
-    (deadline m : ℕ)
-    → has_deadline d2 (deadline, m)
-    ≡ cond (eqb m n) (waits_until deadline o) (has_deadline d (deadline, m))
 
 pub all-placed : (s : Slab Slot) (p : Places) (d : Deadlines) (t : Tally)
     → IsKept s p d t → AllPlaced s p
@@ -39,20 +33,12 @@ pub record IsFit (n : ℕ) (o : Option Slot) (t : Tally) : Type 0 where
 
 pub kept-from : (s s2 : Slab Slot) (p p2 : Places) (d d2 : Deadlines) (t t2 : Tally)
     (n : ℕ) (o : Option Slot) → IsKept s p d t → AllPlaced s2 p2
-    → FindsAt n o (found s p) (found s2 p2) → TimesAt n o d d2 → IsFit n o t2
-    → t.requests ≤ t2.requests → counted_once t2 ≡ t2.requests → t2.left_open ≡ length d2.keys
-    → IsKept s2 p2 d2 t2
-kept-from s s2 p p2 d d2 t t2 n o k a f times fit more counted waiting = record {
+    → FindsAt n o (found s p) (found s2 p2) → AreTimed (time_of s2 p2) d2 t2 → IsFit n o t2
+    → t.requests ≤ t2.requests → counted_once t2 ≡ t2.requests → IsKept s2 p2 d2 t2
+kept-from s s2 p p2 d d2 t t2 n o k a f timed fit more counted = record {
   placed = a.placed;
   occupied = a.occupied;
-  timed = λ deadline. each-number n
-      (λ m. has_deadline d2 (deadline, m) ≡ waits_until deadline (found s2 p2 m))
-      (finds-here n (waits_until deadline o) (λ m. has_deadline d (deadline, m))
-      (λ m. has_deadline d2 (deadline, m)) (times deadline)
-      ∙ sym (ap (waits_until deadline) here))
-      (λ m ne. finds-other n (waits_until deadline o) (λ m. has_deadline d (deadline, m))
-      (λ m. has_deadline d2 (deadline, m)) (times deadline) m ne
-      ∙ k.timed deadline m ∙ sym (ap (waits_until deadline) (others m ne)));
+  timed = timed;
   asked = each-number n
       (λ m. (slot : Slot) → found s2 p2 m ≡ Some slot → slot.outcome ≡ None → slot.awaited ≡ true)
       (λ slot e. fit.asked slot (sym here ∙ e))
@@ -61,7 +47,6 @@ kept-from s s2 p p2 d d2 t t2 n o k a f times fit more counted waiting = record 
       (λ slot e. fit.made slot (sym here ∙ e))
       (λ m ne slot e. let low = k.made m slot (sym (others m ne) ∙ e) in omega (arith, low, more));
   counted = counted;
-  waiting = waiting;
 }
   where
     here : found s2 p2 n ≡ o
@@ -69,6 +54,25 @@ kept-from s s2 p p2 d d2 t t2 n o k a f times fit more counted waiting = record 
 
     others : (m : ℕ) → m ≢ n → found s2 p2 m ≡ found s p m
     others = finds-other n o (found s p) (found s2 p2) f
+
+-- each open request was made
+pub made-timed : (s : Slab Slot) (p : Places) (d : Deadlines) (t : Tally) → IsKept s p d t
+    → (n c : ℕ) → time_of s p n ≡ Some c → n ≤ t.requests
+made-timed s p d t k n c e = by (found s p n) refl e
+  where
+    by : (o : Option Slot) → found s p n ≡ o → deadline_of o ≡ Some c → n ≤ t.requests
+    by None is e = absurd (none-some c e)
+    by (Some slot) is e = k.made n slot is
+
+-- the deadlines of the others are those that were
+pub times-other : (s s2 : Slab Slot) (p p2 : Places) (n : ℕ) (o : Option Slot)
+    → FindsAt n o (found s p) (found s2 p2) → (m : ℕ) → m ≢ n → time_of s2 p2 m ≡ time_of s p m
+times-other s s2 p p2 n o f m ne =
+    ap deadline_of (finds-other n o (found s p) (found s2 p2) f m ne)
+
+pub time-at : (s s2 : Slab Slot) (p p2 : Places) (n : ℕ) (o : Option Slot)
+    → FindsAt n o (found s p) (found s2 p2) → time_of s2 p2 n ≡ deadline_of o
+time-at s s2 p p2 n o f = ap deadline_of (finds-here n o (found s p) (found s2 p2) f)
 
 -- ---- a slot is there
 
@@ -150,23 +154,19 @@ module _ (s : Slab Slot) (p : Places) (d : Deadlines) (t : Tally) (n key : ℕ)
       → (slot2.outcome ≡ None → slot.awaited ≡ true → slot2.awaited ≡ true)
       → IsKept (with_value s key slot2) p d t
   changed-kept deadline outcome awaited =
-      kept-from s (with_value s key slot2) p p d d t t n (Some slot2) k stays-placed changes times
+      kept-from s (with_value s key slot2) p p d d t t n (Some slot2) k stays-placed changes
+      (timed-same (time_of s p) (time_of (with_value s key slot2) p) d d t times (stays-same d)
+      k.timed)
       (record { asked = asked; made = λ x e. k.made n slot (is-found s p n key slot i) })
-      (omega arith) k.counted k.waiting
+      (omega arith) k.counted
     where
-      times : TimesAt n (Some slot2) d d
-      times c = each-number n
-          (λ m. has_deadline d (c, m)
-          ≡ cond (eqb m n) (waits_until c (Some slot2)) (has_deadline d (c, m)))
-          (k.timed c n ∙ ap (waits_until c) (is-found s p n key slot i)
-          ∙ ap (λ x. eqb x c && is_none slot.outcome) (sym deadline)
-          ∙ ap (λ x. eqb slot2.deadline c && is_none x) (sym outcome)
-          ∙ sym (ap (λ b. cond b (waits_until c (Some slot2)) (has_deadline d (c, n)))
-          (same-number n n refl)))
-          (λ m ne. sym (finds-other n (waits_until c (Some slot2))
-          (λ q. has_deadline d (c, q))
-          (λ q. cond (eqb q n) (waits_until c (Some slot2)) (has_deadline d (c, q)))
-          (λ q. refl) m ne))
+      times : (m : ℕ) → time_of (with_value s key slot2) p m ≡ time_of s p m
+      times = each-number n (λ m. time_of (with_value s key slot2) p m ≡ time_of s p m)
+          (time-at s (with_value s key slot2) p p n (Some slot2) changes
+          ∙ ap (λ x. cond (is_none x) (Some slot2.deadline) None) outcome
+          ∙ ap (λ x. cond (is_none slot.outcome) (Some x) None) deadline
+          ∙ sym (ap deadline_of (is-found s p n key slot i)))
+          (times-other s (with_value s key slot2) p p n (Some slot2) changes)
 
       asked : (x : Slot) → Some slot2 ≡ Some x → x.outcome ≡ None → x.awaited ≡ true
       asked x e none =
@@ -193,30 +193,32 @@ module _ (s : Slab Slot) (p : Places) (d : Deadlines) (t : Tally) (n key : ℕ)
 
   -- where an open request ends, its deadline is let go of
   module _ (d2 : Deadlines) (unended : slot.outcome ≡ None) where
-    pub is-timed : has_deadline d (slot.deadline, n) ≡ true
+    pub is-timed : time_of s p n ≡ Some slot.deadline
     is-timed =
-        k.timed slot.deadline n ∙ ap (waits_until slot.deadline) (is-found s p n key slot i)
-        ∙ ap (λ b. b && is_none slot.outcome) (same-number slot.deadline slot.deadline refl)
-        ∙ ap is_none unended
+        ap deadline_of (is-found s p n key slot i)
+        ∙ ap (λ o. cond (is_none o) (Some slot.deadline) None) unended
 
     -- one is open
-    pub some-open : (r : Bool) → r ≡ has_deadline d (slot.deadline, n)
-        → length d2.keys + cond r 1 0 ≡ length d.keys → 1 ≤ t.left_open
-    some-open r test count =
-        let one = ap (λ b. length d2.keys + cond b 1 0) (test ∙ is-timed) in
-        omega (arith, k.waiting, count, one)
+    pub some-open : 1 ≤ t.left_open
+    some-open = some-waits (time_of s p) d t k.timed n slot.deadline
+        (k.made n slot (is-found s p n key slot i)) is-timed
 
-    pub ended-kept : (how : Outcome) (r : Bool) (t2 : Tally) → slot2.outcome ≡ Some how
-        → Retimed d d2 slot.deadline n false → r ≡ has_deadline d (slot.deadline, n)
-        → length d2.keys + cond r 1 0 ≡ length d.keys → t2 ≡ one_ended how t
-        → IsKept (with_value s key slot2) p d2 t2
-    ended-kept how r t2 over w test count is =
-        let tally = after-end how t k.counted (some-open r test count) in
-        let one = ap (λ b. length d2.keys + cond b 1 0) (test ∙ is-timed) in
+    pub ended-kept : (how : Outcome) (next : ℕ) (t2 : Tally) → slot2.outcome ≡ Some how
+        → Removes n slot.deadline d d2
+        → IsNext (time_of (with_value s key slot2) p) n d2.first t2 next → t2 ≡ one_ended how t
+        → IsKept (with_value s key slot2) p (record d2 { first = next }) t2
+    ended-kept how next t2 over away nx is =
+        let tally = after-end how t k.counted some-open in
         let requests = ap (λ x. x.requests) is ∙ tally.requests in
         let left = ap (λ x. x.left_open) is ∙ tally.left_open in
-        kept-from s (with_value s key slot2) p p d d2 t t2 n (Some slot2) k stays-placed changes
-        times
+        kept-from s (with_value s key slot2) p p d (record d2 { first = next }) t t2 n
+        (Some slot2) k stays-placed changes
+        (timed-ended (time_of s p) (time_of (with_value s key slot2) p) d d2 t t2 n
+        slot.deadline next k.timed is-timed
+        (time-at s (with_value s key slot2) p p n (Some slot2) changes
+        ∙ ap (λ o. cond (is_none o) (Some slot2.deadline) None) over)
+        (times-other s (with_value s key slot2) p p n (Some slot2) changes)
+        (k.made n slot (is-found s p n key slot i)) away nx requests left)
         (record {
           asked = λ x e none. absurd
               (clash how (sym over ∙ ap (λ y. y.outcome) (same-some slot2 x e) ∙ none));
@@ -224,34 +226,9 @@ module _ (s : Slab Slot) (p : Places) (d : Deadlines) (t : Tally) (n key : ℕ)
               let low = k.made n slot (is-found s p n key slot i) in omega (arith, low, requests);
         })
         (omega (arith, requests)) (ap counted_once is ∙ tally.counted ∙ sym requests)
-        (omega (arith, left, k.waiting, count, one))
       where
         clash : (x : Outcome) → Some x ≡ None → ⊥
         clash x e = absurd (cc e)
-
-        both : (x y : Bool) → cond x false (x && true) ≡ (y && false)
-        both true true = refl
-        both true false = refl
-        both false true = refl
-        both false false = refl
-
-        times : TimesAt n (Some slot2) d d2
-        times c = each-number n
-            (λ m. has_deadline d2 (c, m)
-            ≡ cond (eqb m n) (waits_until c (Some slot2)) (has_deadline d (c, m)))
-            (time-here d d2 slot.deadline n false w c
-            ∙ ap (cond (eqb slot.deadline c) false)
-            (k.timed c n ∙ ap (waits_until c) (is-found s p n key slot i)
-            ∙ ap (λ o. eqb slot.deadline c && is_none o) unended)
-            ∙ both (eqb slot.deadline c) (eqb slot2.deadline c)
-            ∙ sym (ap (λ o. eqb slot2.deadline c && is_none o) over)
-            ∙ sym (ap (λ b. cond b (waits_until c (Some slot2)) (has_deadline d (c, n)))
-            (same-number n n refl)))
-            (λ m ne. time-others d d2 slot.deadline n false w c m ne
-            ∙ sym (finds-other n (waits_until c (Some slot2))
-            (λ q. has_deadline d (c, q))
-            (λ q. cond (eqb q n) (waits_until c (Some slot2)) (has_deadline d (c, q)))
-            (λ q. refl) m ne))
 
 -- ---- a slot is let go of
 
@@ -261,29 +238,25 @@ module _ (s s2 : Slab Slot) (p p2 : Places) (d : Deadlines) (t : Tally)
   pub gone-kept : is_open_slot (found s p n) ≡ false → IsKept s2 p2 d t
   gone-kept over =
       kept-from s s2 p p2 d d t t n None k
-      (gone-placed s s2 p p2 n key (all-placed s p d t k) place u w)
-      (gone s s2 p p2 n key (all-placed s p d t k) place u w) times
+      (gone-placed s s2 p p2 n key (all-placed s p d t k) place u w) goes
+      (timed-same (time_of s p) (time_of s2 p2) d d t times (stays-same d) k.timed)
       (record {
         asked = λ x e. absurd (none-some x e);
         made = λ x e. absurd (none-some x e);
       })
-      (omega arith) k.counted k.waiting
+      (omega arith) k.counted
     where
-      second : (b c : Bool) → c ≡ false → (b && c) ≡ false
-      second true c e = e
-      second false c e = refl
+      goes : FindsAt n None (found s p) (found s2 p2)
+      goes = gone s s2 p p2 n key (all-placed s p d t k) place u w
 
-      untimed : (c : ℕ) (o : Option Slot) → is_open_slot o ≡ false → waits_until c o ≡ false
-      untimed c None e = refl
-      untimed c (Some x) e = second (eqb x.deadline c) (is_none x.outcome) e
+      untimed : (o : Option Slot) → is_open_slot o ≡ false → deadline_of o ≡ None
+      untimed None e = refl
+      untimed (Some x) e = ap (λ b. cond b (Some x.deadline) None) e
 
-      times : TimesAt n None d d
-      times c = each-number n
-          (λ m. has_deadline d (c, m) ≡ cond (eqb m n) false (has_deadline d (c, m)))
-          (k.timed c n ∙ untimed c (found s p n) over
-          ∙ sym (ap (λ b. cond b false (has_deadline d (c, n))) (same-number n n refl)))
-          (λ m ne. sym (ap (λ b. cond b false (has_deadline d (c, m)))
-          (other-number m n ne)))
+      times : (m : ℕ) → time_of s2 p2 m ≡ time_of s p m
+      times = each-number n (λ m. time_of s2 p2 m ≡ time_of s p m)
+          (time-at s s2 p p2 n None goes ∙ sym (untimed (found s p n) over))
+          (times-other s s2 p p2 n None goes)
 
   pub gone-moves : (x : SlotsKept) → kept_in s p t ≡ x
       → MovesAt n is_let_go x.tally x (kept_in s2 p2 t)

@@ -5,14 +5,13 @@ use Rattle.std.proofs.lemmas.Bool.{cases_eq}
 use Rattle.std.proofs.lemmas.Bool.Decides.{nat_tests}
 use Rattle.std.specs.Option.{option_and_then}
 use Rattle.std.specs.BTreeMap.{is_at}
-use Rattle.std.specs.BTreeSet.{contains}
 use Rattle.std.specs.Ordering.{is_eq, nat_cmp, ordering_then}
 use Rattle.std.specs.declared.cmp.Ordering.{Ordering}
 use Rattle.std.specs.declared.cmp.Reverse.{Reverse}
 use Rattle.slab.specs.Slab as slab
 use Rattle.slab.specs.Slab.{Slab, Updates}
 pub use Rattle.gb_bus.proofs.Entries.{other-number, same-number, same-some}
-use Rattle.gb_bus.specs.Keeping.{Deadlines, Places, by_latest, has_deadline}
+use Rattle.gb_bus.specs.Keeping.{Early, Places, Retimed, by_latest, has_deadline}
 use Rattle.gb_bus.specs.declared.slots.Slot.{Slot}
 use Rattle.gb_table.specs.Table.{Puts, item_at}
 
@@ -25,12 +24,6 @@ key-other a b e = grind (arith, nat_tests)
 -- a deadline with its number, where the latest stand first
 abbrev pub latest : ℕ → ℕ → Reverse (ℕ × ℕ)
 latest d n = record { 0 = (d, n) }
-
--- what the deadlines have after a change at one
-abbrev pub Retimed : Deadlines → Deadlines → ℕ → ℕ → Bool → Type 0
-Retimed s t d n w =
-    (q : Reverse (ℕ × ℕ))
-    → contains by_latest t q ≡ cond (is_at (by_latest (latest d n)) q) w (contains by_latest s q)
 
 first-other : (a b : Ordering) → is_eq a ≡ false → is_eq (ordering_then a b) ≡ false
 first-other Less b e = refl
@@ -60,12 +53,12 @@ time-test d c n = by (cases_eq d c)
         first-other (nat_cmp c d) (nat_cmp n n) (key-other c d (λ e. ne (sym e)))
         ∙ sym (other-number d c ne)
 
-pub time-here : (s t : Deadlines) (d n : ℕ) (w : Bool) → Retimed s t d n w → (c : ℕ)
+pub time-here : (s t : Early) (d n : ℕ) (w : Bool) → Retimed s t d n w → (c : ℕ)
     → has_deadline t (c, n) ≡ cond (eqb d c) w (has_deadline s (c, n))
 time-here s t d n w u c =
     u (latest c n) ∙ ap (λ b. cond b w (has_deadline s (c, n))) (time-test d c n)
 
-pub time-others : (s t : Deadlines) (d n : ℕ) (w : Bool) → Retimed s t d n w → (c m : ℕ)
+pub time-others : (s t : Early) (d n : ℕ) (w : Bool) → Retimed s t d n w → (c m : ℕ)
     → m ≢ n → has_deadline t (c, m) ≡ has_deadline s (c, m)
 time-others s t d n w u c m ne =
     u (latest c m) ∙ ap (λ b. cond b w (has_deadline s (c, m)))

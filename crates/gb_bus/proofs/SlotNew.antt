@@ -1,47 +1,43 @@
 -- What is kept after a slot comes, and the counts with it.
-use Rattle.std.proofs.Common.{◌≡◌, ℕ, ◌+◌, Bool, true, false, ◌&&◌, cond, not}
-use Rattle.std.proofs.Common.{Option, Some, None, Result, Ok, Err, eqb, length, slice_index_or}
+use Rattle.std.proofs.Common.{◌≡◌, ℕ, ◌+◌, Bool, true, false, cond, [], Option, Some, None}
+use Rattle.std.proofs.Common.{Result, Ok, Err, eqb, slice_index_or}
 use Rattle.std.proofs.Common.{refl, sym, ap, ◌∙◌, arith}
 use Rattle.std.specs.Option.{is_none, option_and_then}
+use Rattle.std.specs.BTreeMap.{is_at}
+use Rattle.std.specs.List.{list_any}
 use Rattle.std.specs.Result.{OnErr, OnOk, is_err}
 use Rattle.slab.specs.Slab as slab
 use Rattle.slab.specs.Slab.{Slab, Updates}
-use Rattle.gb_bus.proofs.SlotMaps.{FindsAt, Retimed, added, added-placed}
-use Rattle.gb_bus.proofs.SlotMaps.{each-number}
-use Rattle.gb_bus.proofs.SlotMaps.{found, found-at, none-some, other-number}
-use Rattle.gb_bus.proofs.SlotMaps.{same-number, same-some, time-here, time-others}
-use Rattle.gb_bus.proofs.SlotKept.{TimesAt, all-placed, kept-from}
-use Rattle.gb_bus.specs.Counting.{counted_once, with_one}
-use Rattle.gb_bus.specs.Keeping.{Deadlines, IsKept, Places, has_deadline, waits_until}
+use Rattle.gb_bus.proofs.SlotMaps.{FindsAt, added, added-placed, each-number, found, found-at}
+use Rattle.gb_bus.proofs.SlotMaps.{latest, none-some, same-some}
+use Rattle.gb_bus.proofs.SlotKept.{all-placed, kept-from, made-timed, time-at, times-other}
+use Rattle.gb_bus.proofs.SlotTimes.{count-none, timed-counted, timed-opened, timed-same}
+use Rattle.gb_base.specs.declared.outcome.Outcome.TheVariants as outcome
+use Rattle.gb_bus.specs.Counting.{counted_once, no_requests, with_one}
+use Rattle.gb_bus.specs.Keeping.{Adds, IsKept, Places, Stays, by_latest, deadline_of, time_of}
 use Rattle.gb_bus.specs.Slots.{SlotsKept, MakesAs, key_at}
+use Rattle.gb_bus.specs.declared.deadlines.Deadlines.{Deadlines}
 use Rattle.gb_bus.specs.declared.slots.Slot.{Slot}
 use Rattle.gb_bus.specs.declared.tally.Tally.{Tally}
 use Rattle.gb_table.specs.Table.{Puts, item_at}
 
 -- ---- a slot comes
 
-abbrev weight : Bool → ℕ
-weight b = cond b 1 0
-
 -- all is as it was
 pub same-kept : (s s2 : Slab Slot) (p p2 : Places) (d d2 : Deadlines) (t : Tally)
-    → s2.slots ≡ s.slots → p2 ≡ p
-    → ((q : ℕ × ℕ) → has_deadline d2 q ≡ has_deadline d q)
-    → length d2.keys ≡ length d.keys → IsKept s p d t → IsKept s2 p2 d2 t
-same-kept s s2 p p2 d d2 t slots places times count k = record {
+    → s2.slots ≡ s.slots → ((n : ℕ) → item_at p2 n ≡ item_at p n) → Stays d d2
+    → IsKept s p d t → IsKept s2 p2 d2 t
+same-kept s s2 p p2 d d2 t slots place stays k = record {
   placed = λ n key e.
       let old = k.placed n key (sym (place n) ∙ e) in (old.0, under key ∙ old.1, old.2);
   occupied = λ key x e. place x.number ∙ k.occupied key x (sym (under key) ∙ e);
-  timed = λ c n. times (c, n) ∙ k.timed c n ∙ sym (ap (waits_until c) (same n));
+  timed = timed-same (time_of s p) (time_of s2 p2) d d2 t (λ n. ap deadline_of (same n)) stays
+      k.timed;
   asked = λ n x e. k.asked n x (sym (same n) ∙ e);
   made = λ n x e. k.made n x (sym (same n) ∙ e);
   counted = k.counted;
-  waiting = k.waiting ∙ sym count;
 }
   where
-    place : (n : ℕ) → item_at p2 n ≡ item_at p n
-    place n = ap (λ p. item_at p n) places
-
     under : (key : ℕ) → slab.get s2 key ≡ slab.get s key
     under key = ap (λ xs. slice_index_or xs key None) slots
 
@@ -50,6 +46,42 @@ same-kept s s2 p p2 d d2 t slots places times count k = record {
         ap (λ xs. option_and_then (λ key. slice_index_or xs key None) (item_at p2 n))
         slots
         ∙ ap (option_and_then (slab.get s)) (place n)
+
+-- none was made
+pub none-kept : (s : Slab Slot) (d : Deadlines) → s.slots ≡ [] → d.early.keys ≡ []
+    → IsKept s [] d no_requests
+none-kept s d slots keys = record {
+  placed = λ n key e. absurd (cc e);
+  occupied = λ key x e.
+      absurd (none-some x (sym (ap (λ xs. slice_index_or xs key None) slots) ∙ e));
+  timed = record {
+    early = λ c n e.
+        absurd (cc (sym (ap (list_any (is_at (by_latest (latest c n)))) keys) ∙ e));
+    least = λ n c e. absurd (cc e);
+    found = λ e. refl;
+    rise = λ m n b c low before after late. absurd (cc before);
+    latest = λ n c e. absurd (cc e);
+    waiting = sym (count-none (time_of s []) 0 (λ m low. refl));
+  };
+  asked = λ n x e. absurd (cc e);
+  made = λ n x e. absurd (cc e);
+  counted = refl;
+}
+
+-- a unidirectional request was made
+pub sent-kept : (s : Slab Slot) (p : Places) (d : Deadlines) (t t2 : Tally) → IsKept s p d t
+    → t2 ≡ with_one (Some outcome.Sent) t → IsKept s p d t2
+sent-kept s p d t t2 k is =
+    let requests = ap (λ x. x.requests) is in
+    let sum = ap counted_once is in record {
+      placed = k.placed;
+      occupied = k.occupied;
+      timed = timed-counted (time_of s p) d t t2 k.timed (made-timed s p d t k) requests
+          (ap (λ x. x.left_open) is);
+      asked = k.asked;
+      made = λ n x e. let low = k.made n x e in omega (arith, low, requests);
+      counted = omega (arith, sum, requests, k.counted);
+    }
 
 module _ (s : Slab Slot) (p : Places) (d : Deadlines) (t : Tally) (slot : Slot)
     (k : IsKept s p d t) (newest : slot.number ≡ t.requests + 1) where
@@ -71,45 +103,15 @@ module _ (s : Slab Slot) (p : Places) (d : Deadlines) (t : Tally) (slot : Slot)
           absurd (none-some old.0
           (sym unmade ∙ found-at s p slot.number key (Some old.0) e old.1))
 
-  pub untimed-new : (c : ℕ) → has_deadline d (c, slot.number) ≡ false
-  untimed-new c = k.timed c slot.number ∙ ap (waits_until c) unmade
-
-  -- a deadline that was put is taken away again
-  pub restored : (s2 : Slab Slot) (p2 : Places) (d2 d3 : Deadlines) (a b : Bool)
-      → s2.slots ≡ s.slots → p2 ≡ p
-      → Retimed d d2 slot.deadline slot.number true
-      → Retimed d2 d3 slot.deadline slot.number false
-      → a ≡ not (has_deadline d (slot.deadline, slot.number))
-      → length d2.keys ≡ length d.keys + cond a 1 0
-      → b ≡ has_deadline d2 (slot.deadline, slot.number)
-      → length d3.keys + cond b 1 0 ≡ length d2.keys → IsKept s2 p2 d3 t
-  restored s2 p2 d2 d3 a b slots places put away fresh more there less =
-      same-kept s s2 p p2 d d3 t slots places times count k
-    where
-      n : ℕ
-      n = slot.number
-
-      times : (q : ℕ × ℕ) → has_deadline d3 q ≡ has_deadline d q
-      times q = each-number n
-          (λ m. has_deadline d3 (q.0, m) ≡ has_deadline d (q.0, m))
-          (time-here d2 d3 slot.deadline n false away q.0
-          ∙ ap (cond (eqb slot.deadline q.0) false) (time-here d d2 slot.deadline n true put q.0)
-          ∙ by (eqb slot.deadline q.0) (has_deadline d (q.0, n)) (untimed-new q.0))
-          (λ m ne. time-others d2 d3 slot.deadline n false away q.0 m ne
-          ∙ time-others d d2 slot.deadline n true put q.0 m ne) q.1
-        where
-          by : (x y : Bool) → y ≡ false → cond x false (cond x true y) ≡ y
-          by true y e = sym e
-          by false y e = refl
-
-      count : length d3.keys ≡ length d.keys
-      count =
-          let one = ap weight (fresh ∙ ap not (untimed-new slot.deadline)) in
-          let other = ap weight
-          (there ∙ time-here d d2 slot.deadline n true put slot.deadline
-          ∙ ap (λ x. cond x true (has_deadline d (slot.deadline, n)))
-          (same-number slot.deadline slot.deadline refl)) in
-          omega (arith, more, less, one, other)
+  -- a place that was put is taken away again
+  pub restored : (s2 : Slab Slot) (p2 p3 : Places) (d2 : Deadlines) (o : Option ℕ)
+      → s2.slots ≡ s.slots → Puts (item_at p) (item_at p2) slot.number o
+      → Puts (item_at p2) (item_at p3) slot.number None → Stays d d2 → IsKept s2 p3 d2 t
+  restored s2 p2 p3 d2 o slots put away stays =
+      same-kept s s2 p p3 d d2 t slots
+      (each-number slot.number (λ m. item_at p3 m ≡ item_at p m) (away.here ∙ sym unplaced)
+      (λ m ne. away.others m ne ∙ put.others m ne))
+      stays k
 
   module _ (s2 : Slab Slot) (p2 : Places) (key : ℕ) (free : slab.get s key ≡ None)
       (u : Updates s s2 key (Some slot))
@@ -117,43 +119,27 @@ module _ (s : Slab Slot) (p : Places) (d : Deadlines) (t : Tally) (slot : Slot)
     opens : FindsAt slot.number (Some slot) (found s p) (found s2 p2)
     opens = added s s2 p p2 slot.number key slot (all-placed s p d t k) free u w
 
-    pub opened-kept : (d2 : Deadlines) (a : Bool) (t2 : Tally) → slot.outcome ≡ None
-        → slot.awaited ≡ true → Retimed d d2 slot.deadline slot.number true
-        → a ≡ not (has_deadline d (slot.deadline, slot.number))
-        → length d2.keys ≡ length d.keys + cond a 1 0 → t2 ≡ with_one None t
-        → IsKept s2 p2 d2 t2
-    opened-kept d2 a t2 unended awaited put fresh more is =
-        let one = ap weight (fresh ∙ ap not (untimed-new slot.deadline)) in
+    pub opened-kept : (d2 : Deadlines) (alone : Bool) (t2 : Tally) → slot.outcome ≡ None
+        → slot.awaited ≡ true → alone ≡ eqb t.left_open 0
+        → Adds slot.number slot.deadline alone d d2 → t2 ≡ with_one None t → IsKept s2 p2 d2 t2
+    opened-kept d2 alone t2 unended awaited at adds is =
         let requests = ap (λ x. x.requests) is in
         let left = ap (λ x. x.left_open) is in
         let sum = ap counted_once is in
         kept-from s s2 p p2 d d2 t t2 slot.number (Some slot) k
         (added-placed s s2 p p2 slot.number key slot (all-placed s p d t k) unplaced free u w refl)
-        opens times
+        opens
+        (timed-opened (time_of s p) (time_of s2 p2) d d2 t t2 slot.number slot.deadline alone
+        k.timed (ap deadline_of unmade)
+        (time-at s s2 p p2 slot.number (Some slot) opens
+        ∙ ap (λ o. cond (is_none o) (Some slot.deadline) None) unended)
+        (times-other s s2 p p2 slot.number (Some slot) opens) newest (made-timed s p d t k)
+        requests left at adds)
         (record {
           asked = λ x e none. ap (λ y. y.awaited) (sym (same-some slot x e)) ∙ awaited;
           made = λ x e. omega (arith, newest, requests);
         })
         (omega (arith, requests)) (omega (arith, sum, requests, k.counted))
-        (omega (arith, left, k.waiting, more, one))
-      where
-        by : (x : Bool) → cond x true false ≡ (x && true)
-        by true = refl
-        by false = refl
-
-        times : TimesAt slot.number (Some slot) d d2
-        times c = each-number slot.number
-            (λ m. has_deadline d2 (c, m)
-            ≡ cond (eqb m slot.number) (waits_until c (Some slot)) (has_deadline d (c, m)))
-            (time-here d d2 slot.deadline slot.number true put c
-            ∙ ap (cond (eqb slot.deadline c) true) (untimed-new c)
-            ∙ by (eqb slot.deadline c)
-            ∙ sym (ap (λ o. eqb slot.deadline c && is_none o) unended)
-            ∙ sym (ap (λ b. cond b (waits_until c (Some slot))
-            (has_deadline d (c, slot.number))) (same-number slot.number slot.number refl)))
-            (λ m ne. time-others d d2 slot.deadline slot.number true put c m ne
-            ∙ sym (ap (λ b. cond b (waits_until c (Some slot)) (has_deadline d (c, m)))
-            (other-number m slot.number ne)))
 
 -- a request that isn't unidirectional is in the slot that came next
 pub placed : (oneway : Bool) (slot : Slot) (old new : SlotsKept) → MakesAs oneway slot old new

@@ -8,8 +8,9 @@ use Rattle.gb_base.specs.declared.outcome.Outcome.{Outcome}
 use Rattle.gb_bus.proofs.SlotKept.{IsThere, changed-moves, is-found}
 use Rattle.gb_bus.proofs.SlotMaps.{each-number, other-number}
 use Rattle.gb_bus.specs.Counting.{one_ended}
-use Rattle.gb_bus.specs.Keeping.{Deadlines, IsKept, Places, kept_in}
+use Rattle.gb_bus.specs.Keeping.{IsKept, Places, kept_in}
 use Rattle.gb_bus.specs.Slots.{SlotsKept, MovesAt, ended_at, gives_up_so, is_open_slot, slot_at}
+use Rattle.gb_bus.specs.declared.deadlines.Deadlines.{Deadlines}
 use Rattle.gb_bus.specs.declared.slots.Slot.{Slot}
 use Rattle.gb_bus.specs.declared.tally.Tally.{Tally}
 use Rattle.gb_table.specs.Table.{item_at}

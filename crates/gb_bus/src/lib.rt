@@ -5,6 +5,7 @@ mod answers;
 mod bus;
 mod connection;
 mod connections;
+mod deadlines;
 mod delivering;
 mod end_numbers;
 mod ends;

@@ -16,7 +16,7 @@ ghost use Rattle.std.specs.Prelude.{
   option_copied,
 };
 ghost use Rattle.gb_bus.specs.Counting.{no_requests};
-ghost use Rattle.gb_bus.specs.Keeping.{is_let_go, lesser_of};
+ghost use Rattle.gb_bus.specs.Keeping.{IsNext, is_let_go, lesser_of, time_of};
 ghost use Rattle.gb_bus.specs.Slots.{
   Closes,
   MakesAs,
@@ -40,6 +40,7 @@ ghost use Rattle.gb_bus.specs.Slots.{
 ghost use Rattle.gb_bus.specs.Listing.{AreThose, FindsLeast};
 
 use crate::Tally;
+use crate::deadlines::Deadlines;
 use crate::listing::{Listed, in_order, listed_among};
 use gb_base::{Numbers, OutOfMemory, Outcome, Side};
 use gb_table::Table;
@@ -102,9 +103,7 @@ pub struct Slots {
     slots: Slab<Slot>,
     /// The keys of the slots by number.
     places: Table<usize>,
-    /// The deadlines of the open requests, with their numbers, the latest first: new ones are
-    /// mostly the latest.
-    deadlines: BTreeSet<Reverse<(u64, u64)>>,
+    deadlines: Deadlines,
     tally: Tally,
 }
 
@@ -128,7 +127,7 @@ impl Slots {
         Slots {
             slots: Slab::new(alloc),
             places: Table::new(alloc),
-            deadlines: BTreeSet::new(alloc),
+            deadlines: Deadlines::new(alloc),
             tally: Tally::none(),
         }
     }
@@ -184,10 +183,11 @@ impl Slots {
         let number = slot.number;
         let deadline = slot.deadline;
         self.slots.reserve(1)?;
-        self.deadlines.insert(Reverse((deadline, number)))?;
         let key = self.slots.vacant_key();
-        if let Err(refused) = self.places.put(number, key) {
-            self.deadlines.remove(&Reverse((deadline, number)));
+        self.places.put(number, key)?;
+        let alone = self.tally.left_open == 0;
+        if let Err(refused) = self.deadlines.add(number, deadline, alone) {
+            self.places.take(number);
             return Err(refused);
         }
         self.slots.insert_reserved(slot);
@@ -231,10 +231,11 @@ impl Slots {
             drop(how);
             return None;
         }
-        let deadline = slot.deadline;
-        self.deadlines.remove(&Reverse((deadline, n)));
+        self.deadlines.remove(n, slot.deadline);
         self.tally.end(&how);
         slot.give_up(how);
+        let first = self.deadlines.first;
+        self.deadlines.first = next_first(&self.slots, &self.places, n, first, &self.tally);
         Some(key)
     }
 
@@ -341,12 +342,24 @@ impl Slots {
     pub fn due(&self, alloc: Global, now: u64) -> Result<Numbers, OutOfMemory>
         ensures { IfOk result (λ ns. AreThose (λ n. is_due now (slot_at self.now n)) ns) }
     {
+        if self.tally.left_open == 0 {
+            return Ok(Numbers::new(alloc));
+        }
         let mut found = BTreeSet::new(alloc);
-        for Reverse((deadline, number)) in self.deadlines.iter().rev() {
+        for Reverse((deadline, number)) in self.deadlines.early.iter().rev() {
             if *deadline > now {
                 break;
             }
             found.insert(*number)?;
+        }
+        for n in self.deadlines.first..=self.tally.requests {
+            let Some(time) = deadline_at(&self.slots, &self.places, n) else {
+                continue;
+            };
+            if time > now {
+                break;
+            }
+            found.insert(n)?;
         }
         let due = in_order(alloc, &found)?;
         Ok(due)
@@ -356,8 +369,15 @@ impl Slots {
     pub fn first_due(&self, now: u64) -> Option<u64>
         ensures { FindsLeast (λ n. is_due now (slot_at self.now n)) result }
     {
+        let first = self.deadlines.first;
+        let Some(earliest) = deadline_at(&self.slots, &self.places, first) else {
+            return None;
+        };
+        if earliest <= now {
+            return Some(first);
+        }
         let mut least = None;
-        for Reverse((deadline, number)) in self.deadlines.iter().rev() {
+        for Reverse((deadline, number)) in self.deadlines.early.iter().rev() {
             if *deadline > now {
                 break;
             }
@@ -383,4 +403,43 @@ fn lesser(n: u64, least: Option<u64>) -> Option<u64>
         Some(m) if m <= n => Some(m),
         _ => Some(n),
     }
+}
+
+/// The least number of an open request, where `ended` isn't open any more and `first` was the
+/// least before. Where none is open it is `first`.
+#[inline]
+fn next_first(
+    slots: &Slab<Slot>,
+    places: &Table<usize>,
+    ended: u64,
+    first: u64,
+    tally: &Tally,
+) -> u64
+    ensures { IsNext (time_of slots.now places.now) ended first tally.now result }
+{
+    if ended != first {
+        return first;
+    }
+    if tally.left_open == 0 {
+        return first;
+    }
+    for n in first..tally.requests {
+        if deadline_at(slots, places, n).is_some() {
+            return n;
+        }
+    }
+    tally.requests
+}
+
+/// The deadline of request n, None where n isn't open.
+#[inline]
+fn deadline_at(slots: &Slab<Slot>, places: &Table<usize>, n: u64) -> Option<u64>
+    ensures { result ≡ time_of slots.now places.now n }
+{
+    let key = places.get(n)?;
+    let slot = slots.get(key)?;
+    if slot.outcome.is_some() {
+        return None;
+    }
+    Some(slot.deadline)
 }

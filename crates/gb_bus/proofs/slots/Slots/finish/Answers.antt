@@ -3,7 +3,7 @@ use Rattle.std.proofs.Common.{◌≡◌, None, ap, refl, sym, ◌∙◌}
 use Rattle.std.specs.Option.{option_copied_mut}
 use Rattle.std.specs.Option.{is_none}
 use Rattle.gb_bus.proofs.KeepingLive.{none-there}
-use Rattle.gb_bus.proofs.SlotKept.{IsThere, ended-kept, some-open}
+use Rattle.gb_bus.proofs.SlotKept.{IsThere, changed-kept, ended-kept, some-open}
 use Rattle.gb_bus.proofs.SlotOver.{moves-open, moves-over, none-where, open-there, over-nowhere}
 use Rattle.gb_bus.proofs.SlotOver.{stays-over}
 use Rattle.gb_bus.proofs.slots.Slots.finish.Goals as goal
@@ -20,6 +20,17 @@ returns-in_default-clause-moves c =
     (over-nowhere c.self.inside.slots c.self.inside.places c.self.inside.tally c.args.n
     c.args.self.now c.self.view_is
     (sym c.get.ensures ∙ c.in_default.is))
+
+pub invariant_of-self-then-is_some : goal.invariant_of-self-then-is_some
+invariant_of-self-then-is_some c =
+    let there : IsThere c.self.inside.slots c.self.inside.places c.args.n c.in-Some.key
+    c.in-Some-get_mut.slot.now = record {
+      place = sym c.get.ensures ∙ c.in-Some.is;
+      stands = sym c.get_mut.ensures.value ∙ ap option_copied_mut c.in-Some-get_mut.is;
+    } in
+    changed-kept c.self.inside.slots c.self.inside.places c.self.inside.deadlines
+    c.self.inside.tally c.args.n c.in-Some.key c.in-Some-get_mut.slot.now
+    c.in-Some-get_mut.slot.now c.self.invariant there refl refl refl (λ o a. a)
 
 pub returns-then-is_some-clause-was_open : goal.returns-then-is_some-clause-was_open
 returns-then-is_some-clause-was_open c =
@@ -59,7 +70,6 @@ end-requires-clause-open c =
     some-open c.self.inside.slots c.self.inside.places c.self.inside.deadlines
     c.self.inside.tally c.args.n c.in-Some.key c.in-Some-get_mut.slot.now
     c.in-Some-get_mut.slot.now c.self.invariant there refl c.remove.new.self unended
-    c.remove.result c.remove.ensures.test c.remove.ensures.len
 
 pub invariant_of-self-2 : goal.invariant_of-self-2
 invariant_of-self-2 c =
@@ -73,9 +83,9 @@ invariant_of-self-2 c =
     c.if-is_some.false in
     ended-kept c.self.inside.slots c.self.inside.places c.self.inside.deadlines
     c.self.inside.tally c.args.n c.in-Some.key c.in-Some-get_mut.slot.now _ c.self.invariant there
-    (ap (λ x. x.number) c.give_up.ensures) c.remove.new.self unended c.args.how c.remove.result
-    c.end.new.self (ap (λ x. x.outcome) c.give_up.ensures)
-    c.remove.ensures.updates.0 c.remove.ensures.test c.remove.ensures.len c.end.ensures
+    (ap (λ x. x.number) c.give_up.ensures) c.remove.new.self unended c.args.how
+    c.next_first-self-inside.result c.end.new.self (ap (λ x. x.outcome) c.give_up.ensures)
+    c.remove.ensures c.next_first-self-inside.ensures c.end.ensures
 
 pub returns-clause-was_open : goal.returns-clause-was_open
 returns-clause-was_open c =
