@@ -13,6 +13,7 @@ use gb_base::{Entry, OutOfMemory};
 use std::str;
 
 /// Appends the line of an entry, without its end.
+#[inline(always)]
 pub fn append_entry(
     entry: &Entry,
     line: u32,

@@ -79,6 +79,7 @@ impl Part for u16 {
     }
 }
 
+/// Numbers of lines, which mostly have many digits.
 impl Part for u32 {
     ghost use Rattle.std.specs.Fmt.{decimal};
 
@@ -86,10 +87,11 @@ impl Part for u32 {
 
     #[inline(always)]
     fn append_to(&self, line: &mut String) -> Result<(), OutOfMemory> {
-        append_decimal(*self as u64, line)
+        append_digits(*self as u64, line)
     }
 }
 
+/// Numbers of requests, which mostly have many digits.
 impl Part for u64 {
     ghost use Rattle.std.specs.Fmt.{decimal};
 
@@ -97,7 +99,7 @@ impl Part for u64 {
 
     #[inline(always)]
     fn append_to(&self, line: &mut String) -> Result<(), OutOfMemory> {
-        append_decimal(*self, line)
+        append_digits(*self, line)
     }
 }
 

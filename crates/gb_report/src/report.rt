@@ -60,6 +60,7 @@ pub fn append_all(
 }
 
 /// Appends the text of an entry, as `put` does. After a refusal a front of it may stand in `out`.
+#[inline(always)]
 fn append_one(entry: &Entry, line: u32, hex: bool, out: &mut String) -> Result<(), OutOfMemory>
     ensures text { OnOk result
         (string_bytes out.new ≡ string_bytes out.old ++ entry_text line hex entry.now) }
