@@ -283,7 +283,7 @@ impl Connection {
 }
 
 /// What an answer with an identifier comes to on one side.
-#[inline]
+#[inline(always)]
 fn matched(ops: &mut Ops, number: Option<u64>, label: u16) -> Matched
     ensures { MatchesAs ops.old ops.new number label result }
 {

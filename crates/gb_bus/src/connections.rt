@@ -246,7 +246,7 @@ impl Connections {
 
     /// Adds a message to the queue toward a side of a connection. It is lost where the connection
     /// isn't wired.
-    #[inline]
+    #[inline(always)]
     pub fn push(&mut self, k: u64, side: Side, item: Item) -> Result<(), OutOfMemory>
         ensures { OnOk result (self.new ≡ at_first (numbered k) (put side item) self.old) }
     {

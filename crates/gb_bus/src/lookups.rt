@@ -136,7 +136,7 @@ impl Connections {
     }
 
     /// The wired connection that names an end, and the side at which the end stands.
-    #[inline]
+    #[inline(always)]
     pub fn place(&self, at: End) -> Option<(u64, Side)>
         ensures { result ≡ place_at at self.now }
     {

@@ -65,7 +65,7 @@ pub fn response_bytes(
 }
 
 /// The canonical spelling of a message.
-#[inline]
+#[inline(always)]
 fn message_bytes(alloc: Global, m: &Message<'_>) -> Result<Bytes, OutOfMemory>
     requires fits { length m.now.payload.now ≤ 65527 }
     requires request { m.now.kind < 128 → m.now.result ≡ 0 }

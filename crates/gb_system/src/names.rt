@@ -56,6 +56,7 @@ impl Names {
     }
 
     /// The request that a name names, None where the name is free.
+    #[inline(always)]
     pub fn get(&self, name: &Key) -> Option<u64>
         ensures { result ≡ named name.now self.now }
     {
@@ -65,6 +66,7 @@ impl Names {
     /// Binds a free name. After want of memory all is as before. It also comes where so many names
     /// are bound that one more would have no number of 64 bits. Where the name is bound, and memory
     /// is found, nothing is said of the names.
+    #[inline(always)]
     pub fn bind(&mut self, name: Key, number: u64) -> Result<(), OutOfMemory>
         ensures ok { OnOk result (named name self.old ≡ None
             → self.new ≡ in_order pair_before (name, number) self.old) }

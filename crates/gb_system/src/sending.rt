@@ -49,6 +49,7 @@ impl Parties {
     /// The application processor sends a request on a connection, and the request gets a free
     /// name. The timeout is in milliseconds. Out of memory also comes where its deadline has no
     /// number of 64 bits.
+    #[inline(always)]
     pub fn send_on(
         &mut self,
         name: Key,

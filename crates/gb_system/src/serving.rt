@@ -32,6 +32,7 @@ use gb_host::HostServed;
 impl Parties {
     /// Serves a request that was delivered at an end: its reply goes back, and then what it brings
     /// about is done and told.
+    #[inline(always)]
     pub fn serve(
         &mut self,
         connection: u64,

@@ -15,6 +15,7 @@ use gb_base::{ConnState, End};
 
 impl Parties {
     /// Whether an end takes what is delivered there.
+    #[inline(always)]
     pub fn takes(&self, at: End) -> bool
         ensures { (loose : List Loose) (s : State) (p : Place) → PartsStand loose self.now s
             → place_of at s.bus.connections ≡ Some p → side_of at ≡ p.side
