@@ -50,6 +50,7 @@ impl Bytes {
     }
 
     /// These bytes. Few take no memory.
+    #[inline(always)]
     pub fn from_slice(alloc: Global, bytes: &[u8]) -> Result<Bytes, OutOfMemory>
         ensures same { IfOk result (λ b. b ≡ bytes.now) }
         ensures few { AreFew bytes.now → IsOk result }

@@ -179,6 +179,7 @@ impl Declared {
     }
 
     /// Takes the next descriptor.
+    #[inline(always)]
     pub fn take(&mut self, at: u32, d: &Descriptor<'_>)
         ensures { (before : List Placed) → AreDeclared self.old before
             → AreDeclared self.new (before ++ placed_of (at, d.now) ∷ []) }

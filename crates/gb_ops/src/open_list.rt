@@ -44,7 +44,7 @@ use std::collections::VecDeque;
 use std::marker::Model;
 
 /// Up to twice so many places stay, however few requests are open.
-const FEW: usize = 32;
+const KEPT: usize = 32;
 
 /// A place for a request.
 #[derive(Clone, Copy)]
@@ -91,6 +91,7 @@ impl OpenList {
     /// A request is open. What it had where it was open already is answered. After want of memory
     /// all is as before. A number that isn't greater than all others may take as long as there are
     /// places.
+    #[inline(always)]
     pub fn insert(&mut self, n: u64, request: Pending) -> Result<Option<Pending>, OutOfMemory>
         ensures former { IfOk result (λ former. former ≡ pending_among self.old n) }
         ensures put { OnOk result
@@ -108,6 +109,7 @@ impl OpenList {
     }
 
     /// A request is open no more. None comes where it wasn't.
+    #[inline(always)]
     pub fn remove(&mut self, n: u64) -> Option<Pending>
         ensures request { result ≡ pending_among self.old n }
         ensures removed { Puts (pending_among self.old) (pending_among self.new) n None }
@@ -116,7 +118,7 @@ impl OpenList {
     {
         let request = leave(&mut self.places, n)?;
         self.count = self.count.saturating_sub(1);
-        if self.places.len() / 2 > self.count.max(FEW) {
+        if self.places.len() / 2 > self.count.max(KEPT) {
             compact(&mut self.places);
         }
         Some(request)

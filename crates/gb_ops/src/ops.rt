@@ -58,6 +58,7 @@ impl Ops {
     /// Request n is open from now on, and its identifier is answered: the next one. `deadline` is
     /// in milliseconds. Where n was open already its former identifier is free. After each refusal
     /// all is as before.
+    #[inline(always)]
     pub fn begin(&mut self, n: u64, deadline: u64) -> Result<u16, BeginFault>
         ensures { BeginsAs self.old self.new n deadline result }
     {
@@ -85,6 +86,7 @@ impl Ops {
 
     /// The request that an answer with an identifier belongs to. The identifier is free then. It
     /// takes no memory.
+    #[inline(always)]
     pub fn reply(&mut self, label: u16) -> Matched
         ensures { RepliesAs self.old self.new label result }
     {

@@ -48,6 +48,7 @@ impl Field<'_> {
 
 /// Writes fields to the front of `out`, and answers how many bytes they have. NoRoom exactly where
 /// `out` is shorter, and `out` is then unchanged.
+#[inline(always)]
 pub fn put(fields: &[Field<'_>], out: &mut [u8]) -> Result<usize, NoRoom>
     ensures { Puts (spelled fields.now) out.old out.new result }
 {

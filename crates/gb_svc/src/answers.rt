@@ -14,6 +14,7 @@ use gb_payload::{GREYBUS, SUCCESS, SvcReply};
 use gb_switch::Rung;
 
 /// The answer of success.
+#[inline(always)]
 pub fn answer(reply: &SvcReply) -> SvcServed
     ensures { served_of result ≡ Answered success (svc_reply_payload (svc_reply_of reply.now)) }
 {

@@ -120,6 +120,7 @@ impl<T: Drop> Queues<T> {
     }
 
     /// An end has no queue any more. What waited there is lost.
+    #[inline(always)]
     fn remove(&mut self, at: End)
         ensures { Puts (items_at self.old) (items_at self.new) at None }
     {
@@ -130,6 +131,7 @@ impl<T: Drop> Queues<T> {
 
     /// Adds an item at the end of an end's queue, which is there. For want of memory the item is
     /// handed back, and all is as before.
+    #[inline(always)]
     pub fn push(&mut self, at: End, item: T) -> Result<(), Unpushed<T>>
         requires { IsSome (items_at self.old at) }
         ensures pushed { OnOk result (Appends (items_at self.old) (items_at self.new) at item) }
@@ -144,6 +146,7 @@ impl<T: Drop> Queues<T> {
     }
 
     /// Takes the front item of an end's queue. None comes where there is none.
+    #[inline(always)]
     pub fn pop(&mut self, at: End) -> Option<T>
         ensures { TakesAs (items_at self.old) (items_at self.new) at result }
     {

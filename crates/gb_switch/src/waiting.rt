@@ -64,6 +64,7 @@ impl Waiting {
     }
 
     /// Removes a place, which may be absent.
+    #[inline(always)]
     pub fn remove(&mut self, place: Place)
         ensures { Marks self.old self.new place false }
     {
