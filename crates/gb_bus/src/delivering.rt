@@ -250,7 +250,7 @@ impl Bus {
     }
 
     /// An open request is answered.
-    #[inline]
+    #[inline(always)]
     fn ended(
         &mut self,
         number: u64,

@@ -13,6 +13,7 @@ impl Bus {
     /// Request n has one more name, if it is open, was given up and not answered yet, or has one.
     /// Else nothing changes. Where 18,446,744,073,709,551,615 names are bound nothing is said. It
     /// takes no memory.
+    #[inline(always)]
     pub fn keep(&mut self, n: u64)
         ensures { (around : Around) (b : machine.Bus) → Stands around self.old b
             → KeepsAs around self.new n b }

@@ -81,7 +81,7 @@ pub fn ask_item(alloc: Global, draft: &Draft<'_>, label: u16) -> Result<Item, Ou
 
 /// Adds a message to the queue of an end, which is there. After want of memory it is lost, and all
 /// else is as before.
-#[inline]
+#[inline(always)]
 pub fn add(queues: &mut Queues<Item>, at: End, item: Item) -> Result<(), OutOfMemory>
     requires { IsSome (items_at queues.old at) }
     ensures added { OnOk result (Appends (items_at queues.old) (items_at queues.new) at item) }

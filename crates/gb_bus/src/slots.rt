@@ -174,6 +174,7 @@ impl Slots {
     }
 
     /// A new request is open. Its slot comes last, when there is room for all.
+    #[inline(always)]
     fn open(&mut self, slot: Slot) -> Result<(), OutOfMemory>
         requires number { slot.number ≡ self.old.tally.requests + 1 }
         requires unended { slot.outcome ≡ None }
@@ -214,6 +215,7 @@ impl Slots {
 
     /// Request n ends so, where it is open, and its identifier stays in use. The key of its slot is
     /// answered then.
+    #[inline(always)]
     fn finish(&mut self, n: u64, how: Outcome) -> Option<usize>
         ensures was_open { is_some result ≡ is_open_slot (slot_at self.old n) }
         ensures key { IfSome result (λ key. key_at self.new n ≡ Some key) }
@@ -268,6 +270,7 @@ impl Slots {
     }
 
     /// Request n has one more name, where it is kept.
+    #[inline(always)]
     pub fn keep(&mut self, n: u64)
         ensures { MovesAt n gets_name self.old.tally self.old self.new }
     {
@@ -314,6 +317,7 @@ impl Slots {
     }
 
     /// Request n, whose slot has this key, isn't kept any more. It isn't open.
+    #[inline(always)]
     fn let_go(&mut self, n: u64, key: usize)
         requires key { key_at self.old n ≡ Some key }
         requires over { is_open_slot (slot_at self.old n) ≡ false }

@@ -202,6 +202,7 @@ impl Bus {
     }
 
     /// The wired connection that an end names, None where there is none.
+    #[inline(always)]
     pub fn named(&self, at: End) -> Option<u64>
         ensures { (around : Around) (b : machine.Bus) → Stands around self.now b
             → result ≡ option_map number_of (place_of at b.connections) }
@@ -237,6 +238,7 @@ impl Bus {
     }
 
     /// No identifier is left on a side of a connection, or it isn't live.
+    #[inline(always)]
     pub fn spent(&self, k: u64, side: Side) -> bool
         ensures { (around : Around) (b : machine.Bus) → Stands around self.now b
             → result ≡ is_none (next_label k side b) }

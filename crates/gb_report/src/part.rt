@@ -139,7 +139,7 @@ fn append_pair(number: u8, line: &mut String) -> Result<(), OutOfMemory>
 }
 
 /// Appends a number in decimal digits, however many they are.
-#[inline(never)]
+#[inline(always)]
 fn append_digits(number: u64, line: &mut String) -> Result<(), OutOfMemory>
     ensures { OnOk result (string_bytes line.new ≡ string_bytes line.old ++ decimal number) }
 {
