@@ -8,6 +8,7 @@ use gb_payload::{Field, put};
 
 /// Writes fields to `out` from its byte `at` on, where there is room, and answers the
 /// byte behind them.
+#[inline(always)]
 pub fn put_behind(at: usize, fields: &[Field<'_>], out: &mut [u8]) -> usize
     requires { at + length (spelled fields.now) ≤ length out.old }
     ensures place { result ≡ at + length (spelled fields.now) }

@@ -188,6 +188,7 @@ impl<T: Drop> Queues<T> {
 
 /// Adds an item at the end of the queue at a place, which is marked where it was empty. For want of
 /// memory the item is handed back, and all is as before.
+#[inline(always)]
 fn append<T: Drop>(
     queue: &mut VecDeque<T>,
     waiting: &mut Waiting,
@@ -209,6 +210,7 @@ fn append<T: Drop>(
 
 /// The queue at a place has room for one more item, and its place is marked. After want of memory
 /// all is as before.
+#[inline(always)]
 fn make_room<T: Drop>(
     queue: &mut VecDeque<T>,
     waiting: &mut Waiting,
