@@ -7,4 +7,5 @@ pub mod Operations
 pub mod PartReading
 pub mod PlainLines
 pub mod Readings
+pub mod Shown
 pub mod TextLines

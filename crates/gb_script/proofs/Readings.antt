@@ -6,14 +6,14 @@ use Rattle.std.proofs.Common.{append_assoc, append-nil, length-append, length-dr
 use Rattle.std.proofs.Common.{◌∙◌, subst, arith, take_all}
 use Rattle.std.specs.Prelude.{is_some}
 use Rattle.std.specs.Io.KnownBytes.{Consumes, prepend_known}
+use Rattle.std.proofs.KnownBytes.{Consumes-nil}
 use Rattle.std.proofs.lemmas.Bool.{eqb-true, false_from_ne_true}
 use Rattle.std.proofs.lemmas.List.{length-take, take-append-drop, take-take, take_more}
 use Rattle.std.proofs.lemmas.List.Folds.{list_any-append, list_any_at}
 use Rattle.memchr.specs.Find.{IsFirstByte, Nowhere, Passes, is_byte}
 use Rattle.gb_formats.specs.Lines.{is_lf}
-use Rattle.gb_script.specs.LineBuffers.{HoldsLine}
-use Rattle.gb_script.specs.Pieces.{EndsAt, Fills, HasNoLf, TellsLf, has_lf}
-use Rattle.gb_script.specs.Reading.{IsBeyond, IsEnded, ReadsLine, Took, to_come}
+use Rattle.gb_script.specs.Pieces.{EndsAt, Fills, HasNoLf, PieceBytes, TellsLf, has_lf}
+use Rattle.gb_script.specs.Reading.{IsBeyond, IsEnded, ReadsLine, Took, TookLine, to_come}
 use Rattle.gb_script.specs.declared.held.Held.{Held}
 use Rattle.gb_script.specs.declared.held.LineStop.{LineStop}
 use Rattle.gb_script.specs.declared.held.LineStop.TheVariants as stop
@@ -103,71 +103,95 @@ lf-told bytes (Some n) h = sym (lf-held bytes n h)
 
 -- ---- the line
 
--- a reader of lines whose held bytes are now these
-abbrev pub refilled : Held → List ℕ → Held
-refilled at piece = record { piece = piece; buffer = at.buffer; room = at.room }
+-- a reader of lines that holds these bytes of a read
+abbrev pub refilled : Held → PieceBytes → Held
+refilled at piece =
+    record { piece = piece; buffer = at.buffer; lent = at.lent; room = at.room }
 
 -- `at` has all that came of the line so far, and then holds `piece`
-module _ (old at : Held) (piece : List ℕ) (left between after : Option (List ℕ)) (more : Bool)
+module _ (old at : Held) (piece : PieceBytes) (left between after : Option (List ℕ)) (more : Bool)
     (raw : List ℕ) (plain : HasNoLf raw)
     (came : Consumes (to_come old left) (to_come at between) raw)
     (room : length raw + at.room ≡ old.room)
-    (fills : Fills at.piece piece between after (Ok more)) where
-  filled : Consumes (to_come old left) (prepend_known piece after) raw
-  filled = consumes-filled (to_come old left) between after raw at.piece piece more came fills
+    (fills : Fills at.piece.left piece.left between after (Ok more)) where
+  filled : Consumes (to_come old left) (prepend_known piece.left after) raw
+  filled =
+      consumes-filled (to_come old left) between after raw at.piece.left piece.left more came fills
+
+  -- so many of the held bytes are taken
+  took-bytes : (new : Held) (count : ℕ) → new.piece.left ≡ drop count piece.left
+      → Consumes (to_come old left) (to_come new after) (raw ++ take count piece.left)
+  took-bytes new count taken =
+      subst (λ (p : List ℕ). Consumes (to_come old left) (prepend_known p after)
+      (raw ++ take count piece.left)) (sym taken)
+      (consumes-some (to_come old left) after raw piece.left count filled)
 
   pub took-on : (new : Held) (n count : ℕ) → Took (refilled at piece) new n count
-      → Consumes (to_come old left) (to_come new after) (raw ++ take count piece)
-  took-on new n count took =
-      subst (λ (p : List ℕ). Consumes (to_come old left) (prepend_known p after)
-      (raw ++ take count piece)) (sym took.taken)
-      (consumes-some (to_come old left) after raw piece count filled)
+      → Consumes (to_come old left) (to_come new after) (raw ++ take count piece.left)
+  took-on new n count took = took-bytes new count took.taken
 
   -- its LF is held
-  pub line-ended : (new : Held) (n : ℕ) → HoldsLine at.buffer raw → EndsAt piece n
-      → Took (refilled at piece) new n (n + 1) → IsEnded old new left after
-  line-ended new n kept e took = record {
-    raw = raw ++ take n piece;
-    plain = plain-both raw (take n piece) plain e.plain;
+  pub line-ended : (new : Held) (n : ℕ) → EndsAt piece.left n
+      → TookLine (refilled at piece) new raw n → IsEnded old new left after
+  line-ended new n e took = record {
+    raw = raw ++ take n piece.left;
+    plain = plain-both raw (take n piece.left) plain e.plain;
     taken =
         subst (Consumes (to_come old left) (to_come new after))
         (ap (λ l. raw ++ l)
-        (take_more piece n 0 e.within ∙ ap (λ b. take n piece ++ b ∷ []) e.lf)
-        ∙ sym (append_assoc raw (take n piece) (10 ∷ [])))
-        (took-on new n (n + 1) took);
-    kept = took.kept raw kept;
+        (take_more piece.left n 0 e.within ∙ ap (λ b. take n piece.left ++ b ∷ []) e.lf)
+        ∙ sym (append_assoc raw (take n piece.left) (10 ∷ [])))
+        (took-bytes new (n + 1) took.taken);
+    shows = took.shows;
     room =
-        rw (length-append raw (take n piece), length-take n piece)
+        rw (length-append raw (take n piece.left), length-take n piece.left)
         (omega (arith, room, took.room, e.within));
   }
 
   -- the limit is within what is held
-  pub line-beyond : HasNoLf (take at.room piece) → at.room < length piece → length piece ≤ 4096
-      → IsBeyond old left after
+  pub line-beyond : HasNoLf (take at.room piece.left) → at.room < length piece.left
+      → length piece.left ≤ 4096 → IsBeyond old left after
   line-beyond none more few = record {
-    raw = raw ++ take at.room piece;
-    plain = plain-both raw (take at.room piece) plain none;
-    beyond = drop at.room piece;
+    raw = raw ++ take at.room piece.left;
+    plain = plain-both raw (take at.room piece.left) plain none;
+    beyond = drop at.room piece.left;
     taken =
-        consumes-held (to_come old left) after (raw ++ take at.room piece)
-        (drop at.room piece)
-        (consumes-some (to_come old left) after raw piece at.room filled);
+        consumes-held (to_come old left) after (raw ++ take at.room piece.left)
+        (drop at.room piece.left)
+        (consumes-some (to_come old left) after raw piece.left at.room filled);
     full =
-        rw (length-append raw (take at.room piece), length-take at.room piece)
+        rw (length-append raw (take at.room piece.left), length-take at.room piece.left)
         (omega (arith, room, more));
-    more = rw (length-drop at.room piece) (omega (arith, more));
-    few = rw (length-drop at.room piece) (omega (arith, few));
+    more = rw (length-drop at.room piece.left) (omega (arith, more));
+    few = rw (length-drop at.room piece.left) (omega (arith, few));
   }
 
-  pub ended-beyond : (n : ℕ) → EndsAt piece n → at.room < n + 1 → length piece ≤ 4096
+  pub ended-beyond : (n : ℕ) → EndsAt piece.left n → at.room < n + 1 → length piece.left ≤ 4096
       → IsBeyond old left after
   ended-beyond n e beyond few =
-      line-beyond (subst HasNoLf (take-take at.room n piece (omega (arith, beyond)))
-      (plain-front at.room (take n piece) e.plain)) (omega (arith, beyond, e.within)) few
+      line-beyond (subst HasNoLf (take-take at.room n piece.left (omega (arith, beyond)))
+      (plain-front at.room (take n piece.left) e.plain)) (omega (arith, beyond, e.within)) few
 
-  pub plain-beyond : HasNoLf piece → at.room < length piece → length piece ≤ 4096
+  pub plain-beyond : HasNoLf piece.left → at.room < length piece.left → length piece.left ≤ 4096
       → IsBeyond old left after
-  plain-beyond none more few = line-beyond (plain-front at.room piece none) more few
+  plain-beyond none more few = line-beyond (plain-front at.room piece.left none) more few
+
+-- ---- a line whose LF is held before anything is read
+
+-- no byte came yet
+module _ (old : Held) (left : Option (List ℕ)) (n : ℕ) (ends : EndsAt old.piece.left n) where
+  held-fills : Fills old.piece.left old.piece.left left left (Ok true)
+  held-fills = (Consumes-nil (to_come old left), omega (arith, ends.within))
+
+  pub held-ended : (new : Held) → TookLine old new [] n → IsEnded old new left left
+  held-ended new took =
+      line-ended old old old.piece left left left true [] refl (Consumes-nil (to_come old left))
+      (omega arith) held-fills new n ends took
+
+  pub held-beyond : old.room < n + 1 → length old.piece.left ≤ 4096 → IsBeyond old left left
+  held-beyond beyond few =
+      ended-beyond old old old.piece left left left true [] refl
+      (Consumes-nil (to_come old left)) (omega arith) held-fills n ends beyond few
 
 -- more bytes came than may
 pub beyond-told : (old new : Held) (left after : Option (List ℕ)) (r : Result Bool LineStop)

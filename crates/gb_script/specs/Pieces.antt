@@ -6,6 +6,12 @@ use Rattle.std.specs.Io.KnownBytes.{Consumes, IsAtEnd, prepend_known}
 use Rattle.gb_base.specs.declared.errors.Failed.{Failed}
 use Rattle.gb_formats.specs.Lines.{is_lf}
 
+-- The bytes that a piece shows: the line that was lent last, without its end, and the bytes that
+-- weren't taken.
+pub record PieceBytes : Type 0 where
+  pub line : List ℕ
+  pub left : List ℕ
+
 -- an LF is among these bytes
 abbrev pub has_lf : List ℕ → Bool
 has_lf bytes = list_any is_lf bytes

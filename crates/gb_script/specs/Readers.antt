@@ -3,9 +3,9 @@ use Rattle.std.specs.Prelude.{◌≡◌, ◌<◌, ◌≤◌, ◌+◌, ℕ, Bool,
 use Rattle.std.specs.Prelude.{Ok, Err, List, [], ◌∷◌, ◌++◌, length, take}
 use Rattle.std.specs.Io.KnownBytes.{Consumes, IsAtEnd}
 use Rattle.gb_formats.specs.Lines.{ended_lines, lines, longest_input}
-use Rattle.gb_script.specs.LineBuffers.{HoldsText, is_long_text}
+use Rattle.gb_script.specs.LineBuffers.{is_long_text}
 use Rattle.gb_script.specs.Pieces.{has_lf}
-use Rattle.gb_script.specs.Reading.{to_come}
+use Rattle.gb_script.specs.Reading.{Shows, to_come}
 use Rattle.gb_script.specs.declared.held.LineStop.{LineStop}
 use Rattle.gb_script.specs.declared.held.LineStop.TheVariants as stop
 use Rattle.gb_script.specs.declared.line_reader.LineReader.{LineReader}
@@ -23,7 +23,7 @@ CountsOn old new false = number_of new ≡ number_of old
 
 -- the line that was handed out last is this one
 abbrev pub Lends : LineReader → List ℕ → Type 0
-Lends x line = HoldsText x.held.buffer line
+Lends x line = Shows x.held line
 
 -- what is handed out of a line: its first 8,192 bytes, and whether there are more
 abbrev pub IsLineOf : (bytes : List ℕ) → (long : Bool) → List ℕ → Type 0
@@ -31,7 +31,7 @@ IsLineOf bytes long line = (bytes ≡ take 8192 line) × (long ≡ is_long_text 
 
 -- the bytes that were read and are behind the last line that was handed out
 abbrev pub behind : LineReader → List ℕ
-behind x = x.held.piece
+behind x = x.held.piece.left
 
 -- a further line that has ended is held
 abbrev pub holds_line : LineReader → Bool

@@ -2,22 +2,56 @@
 use Rattle.std.specs.Prelude.{◌≡◌, ◌<◌, ◌≤◌, ◌+◌, ℕ, Bool, true, false, Option, Result, Ok, Err}
 use Rattle.std.specs.Prelude.{List, [], ◌∷◌, ◌++◌, length, take, drop}
 use Rattle.std.specs.Io.KnownBytes.{Consumes, IsAtEnd, prepend_known}
-use Rattle.gb_script.specs.LineBuffers.{HoldsLine}
-use Rattle.gb_script.specs.Pieces.{HasNoLf}
+use Rattle.gb_formats.specs.Lines.{without_cr}
+use Rattle.gb_script.specs.LineBuffers.{HoldsLine, HoldsText}
+use Rattle.gb_script.specs.Pieces.{HasNoLf, PieceBytes}
 use Rattle.gb_script.specs.declared.held.Held.{Held}
 use Rattle.gb_script.specs.declared.held.LineStop.{LineStop}
 use Rattle.gb_script.specs.declared.held.LineStop.TheVariants as stop
 
 -- the bytes that are to come: those held, and those that the source has left
 abbrev pub to_come : Held → Option (List ℕ) → Option (List ℕ)
-to_come h left = prepend_known h.piece left
+to_come h left = prepend_known h.piece.left left
+
+-- ---- where a line stands
+
+-- a line stands in a piece
+pub record StandsIn (piece : PieceBytes) (line : List ℕ) : Type 0 where
+  pub line_is : piece.line ≡ line
+  pub short : length line ≤ 4096
+
+-- By cases on whether the line that came last is lent from the piece: else the buffer keeps it.
+abbrev pub ShowsWhere : (lent : Bool) → Held → List ℕ → Type 0
+ShowsWhere true h line = StandsIn h.piece line
+ShowsWhere false h line = HoldsText h.buffer line
+
+-- the line that came last
+abbrev pub Shows : Held → List ℕ → Type 0
+Shows h line = ShowsWhere h.lent h line
+
+-- these bytes of the line came so far, and the buffer keeps them
+abbrev pub Gathers : Held → List ℕ → Type 0
+Gathers h raw = (h.lent ≡ false) × HoldsLine h.buffer raw
+
+-- ---- what is taken
 
 -- so many bytes within the limit were taken, and the first n of them are of the line
 pub record Took (old new : Held) (n count : ℕ) : Type 0 where
-  pub taken : new.piece ≡ drop count old.piece
-  pub kept : (raw : List ℕ) → HoldsLine old.buffer raw
-      → HoldsLine new.buffer (raw ++ take n old.piece)
+  pub taken : new.piece.left ≡ drop count old.piece.left
+  pub kept : (raw : List ℕ) → Gathers old raw → Gathers new (raw ++ take n old.piece.left)
   pub room : count + new.room ≡ old.room
+
+-- the line that ends with the LF behind n bytes was taken, within the limit; `raw` came before
+pub record TookLine (old new : Held) (raw : List ℕ) (n : ℕ) : Type 0 where
+  pub taken : new.piece.left ≡ drop (n + 1) old.piece.left
+  pub shows : Shows new (without_cr (raw ++ take n old.piece.left))
+  pub room : n + 1 + new.room ≡ old.room
+
+-- so many bytes are beyond the limit, and none was taken
+pub record TooMany (old new : Held) (count : ℕ) (e : LineStop) : Type 0 where
+  pub long : e ≡ stop.TooLong
+  pub same : new ≡ old
+  pub beyond : old.room < count
 
 -- ---- one line
 
@@ -26,7 +60,7 @@ pub record IsEnded (old new : Held) (left left_after : Option (List ℕ)) : Type
   pub raw : List ℕ
   pub plain : HasNoLf raw
   pub taken : Consumes (to_come old left) (to_come new left_after) (raw ++ 10 ∷ [])
-  pub kept : HoldsLine new.buffer raw
+  pub shows : Shows new (without_cr raw)
   pub room : length raw + 1 + new.room ≡ old.room
 
 -- these bytes came, and then the end
@@ -35,7 +69,7 @@ pub record IsLast (old new : Held) (left left_after : Option (List ℕ)) : Type 
   pub plain : HasNoLf raw
   pub taken : Consumes (to_come old left) (to_come new left_after) raw
   pub at_end : IsAtEnd (to_come new left_after)
-  pub kept : HoldsLine new.buffer raw
+  pub gathers : Gathers new raw
   pub room : length raw + new.room ≡ old.room
 
 -- these bytes came, and then the source failed

@@ -37,7 +37,7 @@ pub struct LineReader {
     number: u32,
     progress: Progress,
     ghost counted: { number + held.room ≤ 1048576 },
-    ghost few: { length held.piece ≤ 4096 },
+    ghost few: { length held.piece.left ≤ 4096 },
 }
 
 impl LineReader {
@@ -94,7 +94,6 @@ impl LineReader {
     {
         match self.held.read_line(source) {
             Ok(true) => {
-                self.held.buffer.drop_cr();
                 self.number += 1;
                 Ok(true)
             }
@@ -128,8 +127,8 @@ impl LineReader {
     {
         Line {
             number: self.number,
-            bytes: self.held.buffer.text(),
-            long: self.held.buffer.is_long(),
+            bytes: self.held.line(),
+            long: self.held.is_long(),
         }
     }
 }

@@ -1,7 +1,7 @@
 use Rattle.std.proofs.Common.{Bool, Ok, refl, subst, sym, ◌∙◌}
-use Rattle.gb_script.proofs.LineBuffers.{as-text}
 use Rattle.gb_script.proofs.Handed.{ends-after, gives-ended, gives-last, none-of, some-of}
 use Rattle.gb_script.proofs.Handed.{stops-after}
+use Rattle.gb_script.proofs.Shown.{gathered-shows}
 use Rattle.gb_script.specs.Reading.{ReadsLine}
 use Rattle.gb_script.proofs.line_reader.LineReader.go_on.Goals as goal
 
@@ -12,7 +12,7 @@ returns-then-is_empty-clause-reads g c = λ text given r.
     c.in-Ok-false.field-0-test c.in-Ok-false.ensures.line in
     ends-after c.args.self.now _ text (g.S.Source.left c.args.source.now)
     (g.S.Source.left c.read_line.new.source) given line.raw r
-    (none-of line.raw (sym (c.is_empty.ensures line.raw line.kept) ∙ c.if-is_empty.true))
+    (none-of line.raw (sym (c.is_empty.ensures line.raw line.gathers.1) ∙ c.if-is_empty.true))
     line.taken line.at_end line.room refl refl c.read_line.ensures.few
 
 pub returns-in-Ok-true-clause-reads : goal.returns-in-Ok-true-clause-reads
@@ -22,7 +22,7 @@ returns-in-Ok-true-clause-reads g c = λ text given r.
     c.in-Ok-true.field-0-test c.in-Ok-true.ensures.line in
     gives-ended c.args.self.now _ text (g.S.Source.left c.args.source.now)
     (g.S.Source.left c.read_line.new.source) given line.raw r
-    c.requires line.plain line.taken line.room (c.drop_cr.ensures line.raw line.kept) refl refl
+    c.requires line.plain line.taken line.room line.shows refl refl
     c.read_line.ensures.few
 
 pub returns-else-is_empty-clause-reads : goal.returns-else-is_empty-clause-reads
@@ -33,8 +33,8 @@ returns-else-is_empty-clause-reads g c = λ text given r.
     gives-last c.args.self.now _ text (g.S.Source.left c.args.source.now)
     (g.S.Source.left c.read_line.new.source) given line.raw r
     c.requires line.plain line.taken line.at_end line.room
-    (as-text c.read_line.new.self.buffer line.raw line.kept)
-    (some-of line.raw (sym (c.is_empty.ensures line.raw line.kept) ∙ c.if-is_empty.false)) refl
+    (gathered-shows c.read_line.new.self line.raw line.gathers)
+    (some-of line.raw (sym (c.is_empty.ensures line.raw line.gathers.1) ∙ c.if-is_empty.false)) refl
     refl c.read_line.ensures.few
 
 pub returns-in-Err-clause-reads : goal.returns-in-Err-clause-reads
