@@ -15,3 +15,4 @@ pub mod Ordering
 pub mod Quiet
 pub mod Restoring
 pub mod Rising
+pub mod Unawaited

@@ -1,9 +1,14 @@
 //! What the sequences of the application processor wait for, and the connections that they make.
 
-ghost use Rattle.std.specs.Prelude.{◌≡◌, ℕ, None};
+ghost use Rattle.std.specs.Option.{is_some};
+ghost use Rattle.std.specs.Prelude.{◌≡◌, ℕ, None, [], false};
+ghost use Rattle.gb_base.specs.declared.host_event.HostEvent.TheVariants as host_event;
+ghost use Rattle.gb_base.specs.declared.outcome.Outcome.{Outcome};
 ghost use Rattle.gb_machine.specs.Host as machine;
 ghost use Rattle.gb_machine.specs.Host.{with_new_link};
+ghost use Rattle.gb_machine.specs.HostTurns.{host_turn};
 ghost use Rattle.gb_machine.specs.SequenceSteps.{is_enumeration};
+ghost use Rattle.gb_machine.specs.Turns.{turn};
 ghost use Rattle.gb_machine.specs.Waits.{awaited, awaits, awaits_nothing, purpose_in, waiting};
 
 use crate::Host;
@@ -44,6 +49,17 @@ impl Host {
                 awaits: None,
             });
         }
+    }
+
+    /// Whether a sequence waits for a request. Where none does, the end of the request changes
+    /// nothing, and nothing is to be done. It takes no memory.
+    #[inline]
+    pub fn is_awaited(&self, number: u64) -> bool
+        ensures step { (h : machine.Host) → Stands self.now h → result ≡ is_some (awaited number h) }
+        ensures quiet { (h : machine.Host) (how : Outcome) → Stands self.now h → result ≡ false
+            → host_turn (host_event.Ended number how) h ≡ turn h [] }
+    {
+        self.awaited(number).is_some()
     }
 
     /// What a request is for, where a sequence waits for it.
