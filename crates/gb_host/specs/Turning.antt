@@ -84,10 +84,11 @@ pub record Turns (t : Turn) (front : List Act) (new : Host) (all : List Act) : T
   pub acts : all ≡ front ++ spelled t.acts
   pub pending : Pends t.acts new
 
--- A turn is done, or nothing has changed for want of memory.
-abbrev pub TurnsAfter : Turn → List Act → Host → Host → Result (List Act) OutOfMemory → Type 0
-TurnsAfter t front old new (Ok all) = Turns t front new all
-TurnsAfter t front old new (Err refused) = IsUnchanged old new
+-- A turn is done, and its acts went to the end of those that there were, or nothing of the
+-- application processor has changed for want of memory.
+abbrev pub TurnsAfter : Turn → List Act → List Act → Host → Host → Result ⊤ OutOfMemory → Type 0
+TurnsAfter t front all old new (Ok done) = Turns t front new all
+TurnsAfter t front all old new (Err refused) = IsUnchanged old new
 
 -- A turn is done, and the acts are its own, or nothing has changed for want of memory.
 abbrev pub TurnsAs : Turn → Host → Host → Result (List Act) OutOfMemory → Type 0

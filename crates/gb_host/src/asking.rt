@@ -1,6 +1,6 @@
 //! The requests that a sequence makes, and the connections that it opens.
 
-ghost use Rattle.std.specs.Prelude.{◌≡◌, ◌∷◌, ◌++◌, [], IfOk, find};
+ghost use Rattle.std.specs.Prelude.{◌≡◌, ◌∷◌, ◌++◌, [], OnOk, find};
 ghost use Rattle.gb_host.specs.Asking.{target_of};
 ghost use Rattle.gb_machine.specs.Host.{in_state, interface_of, with_interface, with_link, link_at};
 ghost use Rattle.gb_machine.specs.SequenceSteps.{payload_of};
@@ -21,27 +21,27 @@ impl Host {
 
     /// The request of a purpose is made. Where there is no Control connection for it,
     /// its step fails.
-    pub(crate) fn ask(&mut self, acts: Acts, purpose: Purpose) -> Result<Acts, OutOfMemory>
-        ensures { TurnsAfter (step_asked purpose (host_of self.old)) acts
-            self.old self.new result }
+    pub(crate) fn ask(&mut self, acts: &mut Acts, purpose: Purpose) -> Result<(), OutOfMemory>
+        ensures { TurnsAfter (step_asked purpose (host_of self.old))
+            acts.old acts.new self.old self.new result }
     {
         let Some(on) = self.way(purpose) else {
             return self.step_fails(acts, purpose);
         };
         let ap = self.ap(purpose);
-        let acts = self.request(acts, on, ap, purpose)?;
-        Ok(acts)
+        self.request(acts, on, ap, purpose)?;
+        Ok(())
     }
 
     /// The same sequence goes on with another step.
     pub(crate) fn go_on(
         &mut self,
-        acts: Acts,
+        acts: &mut Acts,
         purpose: Purpose,
         step: SequenceStep,
-    ) -> Result<Acts, OutOfMemory>
-        ensures { TurnsAfter (goes_on step purpose (host_of self.old)) acts
-            self.old self.new result }
+    ) -> Result<(), OutOfMemory>
+        ensures { TurnsAfter (goes_on step purpose (host_of self.old))
+            acts.old acts.new self.old self.new result }
     {
         self.ask(acts, to_step(purpose, step))
     }
@@ -49,18 +49,18 @@ impl Host {
     /// The interface of a purpose is changed, and then its request is made.
     pub(crate) fn ask_changed(
         &mut self,
-        acts: Acts,
+        acts: &mut Acts,
         purpose: Purpose,
         change: Change,
-    ) -> Result<Acts, OutOfMemory>
+    ) -> Result<(), OutOfMemory>
         ensures { TurnsAfter (step_asked purpose
-            (with_interface purpose.intf (changed change) (host_of self.old))) acts
-            self.old self.new result }
+            (with_interface purpose.intf (changed change) (host_of self.old)))
+            acts.old acts.new self.old self.new result }
     {
         let back = self.interfaces.back(purpose.intf, change);
         self.interfaces.change(purpose.intf, change);
         match self.ask(acts, purpose) {
-            Ok(acts) => Ok(acts),
+            Ok(()) => Ok(()),
             Err(refused) => {
                 self.interfaces.change(purpose.intf, back);
                 Err(refused)
@@ -71,18 +71,18 @@ impl Host {
     /// The connection of a purpose has a state from now on, and then the request is made.
     pub(crate) fn ask_in_state(
         &mut self,
-        acts: Acts,
+        acts: &mut Acts,
         purpose: Purpose,
         to: ConnState,
-    ) -> Result<Acts, OutOfMemory>
+    ) -> Result<(), OutOfMemory>
         ensures { TurnsAfter (step_asked purpose
-            (with_link purpose.intf purpose.cport (in_state to) (host_of self.old))) acts
-            self.old self.new result }
+            (with_link purpose.intf purpose.cport (in_state to) (host_of self.old)))
+            acts.old acts.new self.old self.new result }
     {
         let back = self.links.state(purpose.intf, purpose.cport, to);
         self.links.set_state(purpose.intf, purpose.cport, to);
         match self.ask(acts, purpose) {
-            Ok(acts) => Ok(acts),
+            Ok(()) => Ok(()),
             Err(refused) => {
                 self.links.set_state(purpose.intf, purpose.cport, back);
                 Err(refused)
@@ -94,15 +94,14 @@ impl Host {
     /// request for it.
     pub(crate) fn open(
         &mut self,
-        acts: Acts,
+        acts: &mut Acts,
         purpose: Purpose,
         ap: u16,
         protocol: u8,
-    ) -> Result<Acts, OutOfMemory>
-        ensures { TurnsAfter (opens ap protocol purpose (host_of self.old)) acts
-            self.old self.new result }
+    ) -> Result<(), OutOfMemory>
+        ensures { TurnsAfter (opens ap protocol purpose (host_of self.old))
+            acts.old acts.new self.old self.new result }
     {
-        let mut acts = acts;
         acts.push(Act::Make {
             ap,
             intf: purpose.intf,
@@ -110,33 +109,32 @@ impl Host {
             protocol,
             purpose,
         })?;
-        let acts = self.request(acts, SVC, ap, purpose)?;
+        self.request(acts, SVC, ap, purpose)?;
         self.links.reserve()?;
         self.pending = Some(Pending { ap, protocol });
-        Ok(acts)
+        Ok(())
     }
 
     /// The request of a purpose on a connection goes to the end of the acts.
     pub(crate) fn request(
         &self,
-        acts: Acts,
+        acts: &mut Acts,
         on: u64,
         ap: u16,
         purpose: Purpose,
-    ) -> Result<Acts, OutOfMemory>
-        ensures { IfOk result (λ all. all ≡ acts
+    ) -> Result<(), OutOfMemory>
+        ensures { OnOk result (acts.new ≡ acts.old
             ++ asks (asking on purpose (target ap purpose (host_of self.now))) ∷ []) }
     {
         let target = self.target(ap, purpose);
         let payload = payload(self.alloc, purpose.step, target);
-        let mut acts = acts;
         acts.push(Act::Ask {
             on,
             kind: kind(purpose.step),
             payload,
             purpose,
         })?;
-        Ok(acts)
+        Ok(())
     }
 
     /// The connection on which the request of a purpose goes.

@@ -1,6 +1,6 @@
 //! Connecting a CPort, and closing a connection.
 
-ghost use Rattle.std.specs.Prelude.{◌≡◌, ◌∷◌, ◌++◌, [], IfOk, OnOk, Some, option_and_then};
+ghost use Rattle.std.specs.Prelude.{◌≡◌, ◌∷◌, ◌++◌, [], OnOk, Some, option_and_then};
 ghost use Rattle.std.specs.Prelude.{option_map};
 ghost use Rattle.gb_base.specs.declared.entry.ConnState.TheVariants as state;
 ghost use Rattle.gb_host.specs.Turning.{left_acts, spelled};
@@ -23,15 +23,20 @@ impl Host {
     ghost use Rattle.gb_host.specs.Turning.{TurnsAfter};
 
     /// The connect sequence of a CPort begins.
-    pub(crate) fn connect(&mut self, acts: Acts, intf: u8, cport: u16) -> Result<Acts, OutOfMemory>
-        ensures { TurnsAfter (host_connects intf cport (host_of self.old)) acts
-            self.old self.new result }
+    pub(crate) fn connect(
+        &mut self,
+        acts: &mut Acts,
+        intf: u8,
+        cport: u16,
+    ) -> Result<(), OutOfMemory>
+        ensures { TurnsAfter (host_connects intf cport (host_of self.old))
+            acts.old acts.new self.old self.new result }
     {
         let Some(view) = self.view(intf, cport) else {
-            return Ok(acts);
+            return Ok(());
         };
         let Some(ap) = self.links.free_cport() else {
-            return Ok(acts);
+            return Ok(());
         };
         let purpose = Purpose {
             intf,
@@ -55,89 +60,95 @@ impl Host {
     /// The close sequence of a connection begins, and its ids are free.
     pub(crate) fn disconnect(
         &mut self,
-        acts: Acts,
+        acts: &mut Acts,
         intf: u8,
         cport: u16,
-    ) -> Result<Acts, OutOfMemory>
-        ensures { TurnsAfter (host_disconnects intf cport (host_of self.old)) acts
-            self.old self.new result }
+    ) -> Result<(), OutOfMemory>
+        ensures { TurnsAfter (host_disconnects intf cport (host_of self.old))
+            acts.old acts.new self.old self.new result }
     {
         let Some(link) = self.links.at(intf, cport) else {
-            return Ok(acts);
+            return Ok(());
         };
-        let mut acts = acts;
-        begin_close(&mut acts, link)?;
+        begin_close(acts, link)?;
         let purpose = Purpose {
             intf,
             cport,
             step: SequenceStep::TellDisconnecting,
         };
-        let acts = self.ask_in_state(acts, purpose, ConnState::Closing)?;
+        self.ask_in_state(acts, purpose, ConnState::Closing)?;
         self.images.forget(link.connection);
-        Ok(acts)
+        Ok(())
     }
 
     /// A connection drains: it closes once the requests on it have ended.
-    pub(crate) fn drain(&mut self, acts: Acts, intf: u8, cport: u16) -> Result<Acts, OutOfMemory>
-        ensures { TurnsAfter (host_drains intf cport (host_of self.old)) acts
-            self.old self.new result }
+    pub(crate) fn drain(&mut self, acts: &mut Acts, intf: u8, cport: u16) -> Result<(), OutOfMemory>
+        ensures { TurnsAfter (host_drains intf cport (host_of self.old))
+            acts.old acts.new self.old self.new result }
     {
         let purpose = Purpose {
             intf,
             cport,
             step: SequenceStep::TellDisconnecting,
         };
-        let acts = self.tell_link(acts, purpose, ConnState::Draining)?;
+        self.tell_link(acts, purpose, ConnState::Draining)?;
         self.links.set_state(intf, cport, ConnState::Draining);
-        Ok(acts)
+        Ok(())
     }
 
     /// No request is open on a connection: its close sequence begins where it drains.
-    pub(crate) fn idle(&mut self, acts: Acts, connection: u64) -> Result<Acts, OutOfMemory>
-        ensures { TurnsAfter (host_idle connection (host_of self.old)) acts
-            self.old self.new result }
+    pub(crate) fn idle(&mut self, acts: &mut Acts, connection: u64) -> Result<(), OutOfMemory>
+        ensures { TurnsAfter (host_idle connection (host_of self.old))
+            acts.old acts.new self.old self.new result }
     {
         let Some(link) = self.links.of(connection) else {
-            return Ok(acts);
+            return Ok(());
         };
         if link.state != ConnState::Draining {
-            return Ok(acts);
+            return Ok(());
         }
         self.disconnect(acts, link.intf, link.cport)
     }
 
     /// The connection of a purpose is open.
-    pub(crate) fn link_opened(&mut self, acts: Acts, purpose: Purpose) -> Result<Acts, OutOfMemory>
-        ensures { TurnsAfter (link_opened purpose (host_of self.old)) acts
-            self.old self.new result }
+    pub(crate) fn link_opened(
+        &mut self,
+        acts: &mut Acts,
+        purpose: Purpose,
+    ) -> Result<(), OutOfMemory>
+        ensures { TurnsAfter (link_opened purpose (host_of self.old))
+            acts.old acts.new self.old self.new result }
     {
-        let acts = self.tell_link(acts, purpose, ConnState::Open)?;
+        self.tell_link(acts, purpose, ConnState::Open)?;
         self.links
             .set_state(purpose.intf, purpose.cport, ConnState::Open);
-        Ok(acts)
+        Ok(())
     }
 
     /// The connection of a purpose is closed, and there no more.
-    pub(crate) fn link_closed(&mut self, acts: Acts, purpose: Purpose) -> Result<Acts, OutOfMemory>
-        ensures { TurnsAfter (link_closed purpose (host_of self.old)) acts
-            self.old self.new result }
+    pub(crate) fn link_closed(
+        &mut self,
+        acts: &mut Acts,
+        purpose: Purpose,
+    ) -> Result<(), OutOfMemory>
+        ensures { TurnsAfter (link_closed purpose (host_of self.old))
+            acts.old acts.new self.old self.new result }
     {
-        let acts = self.tell_left(acts, purpose)?;
+        self.tell_left(acts, purpose)?;
         self.links.remove(purpose.intf, purpose.cport);
-        Ok(acts)
+        Ok(())
     }
 
     /// The connection of a purpose is given up and told to be closed, where there is one.
-    fn tell_left(&self, acts: Acts, purpose: Purpose) -> Result<Acts, OutOfMemory>
-        ensures { IfOk result (λ all. all ≡ acts ++ spelled (left_acts
+    fn tell_left(&self, acts: &mut Acts, purpose: Purpose) -> Result<(), OutOfMemory>
+        ensures { OnOk result (acts.new ≡ acts.old ++ spelled (left_acts
             (link_at purpose.intf purpose.cport (host_of self.now)))) }
     {
         let Some(link) = self.links.at(purpose.intf, purpose.cport) else {
-            return Ok(acts);
+            return Ok(());
         };
-        let mut acts = acts;
-        leave(&mut acts, link)?;
-        Ok(acts)
+        leave(acts, link)?;
+        Ok(())
     }
 }
 

@@ -1,6 +1,6 @@
 //! The enumeration of an interface.
 
-ghost use Rattle.std.specs.Prelude.{◌≡◌, ◌+◌, ◌≤◌, ◌∷◌, ◌++◌, [], IfOk};
+ghost use Rattle.std.specs.Prelude.{◌≡◌, ◌+◌, ◌≤◌, ◌∷◌, ◌++◌, [], IfOk, OnOk};
 ghost use Rattle.gb_base.specs.declared.entry.Entry.TheVariants as entry;
 ghost use Rattle.gb_base.specs.declared.entry.IntfStage.TheVariants as stage;
 ghost use Rattle.gb_base.specs.declared.steps.SequenceStep.TheVariants as steps;
@@ -34,50 +34,53 @@ impl Host {
     /// The enumeration of each interface of a module begins, in order of number.
     pub(crate) fn inserted(
         &mut self,
-        acts: Acts,
+        acts: &mut Acts,
         primary: u8,
         count: u8,
-    ) -> Result<Acts, OutOfMemory>
+    ) -> Result<(), OutOfMemory>
         ensures { primary + count ≤ 256 → TurnsAfter
-            (one_by_one (host_inserted primary) (span primary count) (host_of self.old)) acts
-            self.old self.new result }
+            (one_by_one (host_inserted primary) (span primary count) (host_of self.old))
+            acts.old acts.new self.old self.new result }
     {
         let intfs = span(self.alloc, primary, count)?;
-        let acts = self.begin_all(acts, intfs.items())?;
+        self.begin_all(acts, intfs.items())?;
         self.interfaces.add(self.alloc, primary, intfs.items())?;
-        Ok(acts)
+        Ok(())
     }
 
     /// The enumerations of interfaces begin, one after another.
-    fn begin_all(&self, acts: Acts, intfs: &[u8]) -> Result<Acts, OutOfMemory>
-        ensures { IfOk result (λ all. all ≡ acts ++ spelled (begun intfs.now)) }
+    fn begin_all(&self, acts: &mut Acts, intfs: &[u8]) -> Result<(), OutOfMemory>
+        ensures { OnOk result (acts.new ≡ acts.old ++ spelled (begun intfs.now)) }
     {
-        let mut acts = acts;
         for intf in intfs {
-            acts = self.begin(acts, *intf)?;
+            self.begin(acts, *intf)?;
         }
-        Ok(acts)
+        Ok(())
     }
 
     /// It is told that the enumeration of an interface begins, and its power is asked for.
-    fn begin(&self, acts: Acts, intf: u8) -> Result<Acts, OutOfMemory>
-        ensures { IfOk result (λ all. all ≡ acts ++ spelled (begins intf)) }
+    fn begin(&self, acts: &mut Acts, intf: u8) -> Result<(), OutOfMemory>
+        ensures { OnOk result (acts.new ≡ acts.old ++ spelled (begins intf)) }
     {
         let purpose = Purpose {
             intf,
             cport: 0,
             step: SequenceStep::EnableVsys,
         };
-        let acts = tell_interface(acts, intf, IntfStage::Enumerating)?;
-        let acts = self.request(acts, SVC, 0, purpose)?;
-        Ok(acts)
+        tell_interface(acts, intf, IntfStage::Enumerating)?;
+        self.request(acts, SVC, 0, purpose)?;
+        Ok(())
     }
 
     /// An interface gets the least device id that is free, or fails where none is.
-    pub(crate) fn begin_device(&mut self, acts: Acts, purpose: Purpose) -> Result<Acts, OutOfMemory>
+    pub(crate) fn begin_device(
+        &mut self,
+        acts: &mut Acts,
+        purpose: Purpose,
+    ) -> Result<(), OutOfMemory>
         ensures { TurnsAfter (begins_device (free_device (host_of self.old))
-            (at_step steps.GiveDevice purpose) (host_of self.old)) acts
-            self.old self.new result }
+            (at_step steps.GiveDevice purpose) (host_of self.old))
+            acts.old acts.new self.old self.new result }
     {
         let purpose = to_step(purpose, SequenceStep::GiveDevice);
         let Some(device) = self.interfaces.free_device() else {
@@ -87,9 +90,13 @@ impl Host {
     }
 
     /// The supervisory controller gave an interface its device id.
-    pub(crate) fn device_given(&mut self, acts: Acts, purpose: Purpose) -> Result<Acts, OutOfMemory>
-        ensures { TurnsAfter (device_given purpose (host_of self.old)) acts
-            self.old self.new result }
+    pub(crate) fn device_given(
+        &mut self,
+        acts: &mut Acts,
+        purpose: Purpose,
+    ) -> Result<(), OutOfMemory>
+        ensures { TurnsAfter (device_given purpose (host_of self.old))
+            acts.old acts.new self.old self.new result }
     {
         let purpose = to_step(purpose, SequenceStep::CreateRoute);
         self.ask_changed(acts, purpose, Change::HasDevice(true))
@@ -99,12 +106,12 @@ impl Host {
     /// none is.
     pub(crate) fn begin_control(
         &mut self,
-        acts: Acts,
+        acts: &mut Acts,
         purpose: Purpose,
-    ) -> Result<Acts, OutOfMemory>
+    ) -> Result<(), OutOfMemory>
         ensures { TurnsAfter (begins_control (free_cport (host_of self.old))
-            (at_step steps.CreateControl purpose) (host_of self.old)) acts
-            self.old self.new result }
+            (at_step steps.CreateControl purpose) (host_of self.old))
+            acts.old acts.new self.old self.new result }
     {
         let purpose = to_step(purpose, SequenceStep::CreateControl);
         let Some(ap) = self.links.free_cport() else {
@@ -116,27 +123,27 @@ impl Host {
     /// The Control connection is open, and the version is asked.
     pub(crate) fn control_opened(
         &mut self,
-        acts: Acts,
+        acts: &mut Acts,
         purpose: Purpose,
-    ) -> Result<Acts, OutOfMemory>
-        ensures { TurnsAfter (control_opened purpose (host_of self.old)) acts
-            self.old self.new result }
+    ) -> Result<(), OutOfMemory>
+        ensures { TurnsAfter (control_opened purpose (host_of self.old))
+            acts.old acts.new self.old self.new result }
     {
-        let acts = self.tell_link(acts, purpose, ConnState::Open)?;
+        self.tell_link(acts, purpose, ConnState::Open)?;
         let purpose = to_step(purpose, SequenceStep::AskVersion);
-        let acts = self.ask_in_state(acts, purpose, ConnState::Open)?;
-        Ok(acts)
+        self.ask_in_state(acts, purpose, ConnState::Open)?;
+        Ok(())
     }
 
     /// The size of the manifest was told.
     pub(crate) fn size_told(
         &mut self,
-        acts: Acts,
+        acts: &mut Acts,
         purpose: Purpose,
         payload: &[u8],
-    ) -> Result<Acts, OutOfMemory>
-        ensures { TurnsAfter (size_told purpose payload.now (host_of self.old)) acts
-            self.old self.new result }
+    ) -> Result<(), OutOfMemory>
+        ensures { TurnsAfter (size_told purpose payload.now (host_of self.old))
+            acts.old acts.new self.old self.new result }
     {
         let purpose = to_step(purpose, SequenceStep::AskManifest);
         self.ask_changed(acts, purpose, Change::Size(size_in(payload)))
@@ -145,12 +152,12 @@ impl Host {
     /// The manifest came. The interface fails where it hasn't the length that was told.
     pub(crate) fn manifest_told(
         &mut self,
-        acts: Acts,
+        acts: &mut Acts,
         purpose: Purpose,
         bytes: Bytes,
-    ) -> Result<Acts, OutOfMemory>
-        ensures { TurnsAfter (manifest_told purpose bytes (host_of self.old)) acts
-            self.old self.new result }
+    ) -> Result<(), OutOfMemory>
+        ensures { TurnsAfter (manifest_told purpose bytes (host_of self.old))
+            acts.old acts.new self.old self.new result }
     {
         if bytes.items().len() != usize::from(self.size_known(purpose.intf)) {
             return self.interface_fails(acts, purpose);
@@ -161,12 +168,13 @@ impl Host {
     /// The manifest is accepted, or refused and named.
     fn manifest_checked(
         &mut self,
-        acts: Acts,
+        acts: &mut Acts,
         purpose: Purpose,
         bytes: Bytes,
-    ) -> Result<Acts, OutOfMemory>
+    ) -> Result<(), OutOfMemory>
         ensures { TurnsAfter (manifest_checked (check_answer bytes) purpose bytes
-            (host_of self.old)) acts self.old self.new result }
+            (host_of self.old))
+            acts.old acts.new self.old self.new result }
     {
         match refused_in(bytes.items()) {
             None => self.enumerated(acts, purpose, bytes),
@@ -177,32 +185,31 @@ impl Host {
     /// The interface is enumerated with this manifest.
     fn enumerated(
         &mut self,
-        acts: Acts,
+        acts: &mut Acts,
         purpose: Purpose,
         bytes: Bytes,
-    ) -> Result<Acts, OutOfMemory>
+    ) -> Result<(), OutOfMemory>
         ensures { TurnsAfter (turn
             (with_interface purpose.intf (enumerated bytes) (host_of self.old))
-            (turns.Act.Tell (entry.Interface purpose.intf stage.Enumerated) ∷ [])) acts
-            self.old self.new result }
+            (turns.Act.Tell (entry.Interface purpose.intf stage.Enumerated) ∷ []))
+            acts.old acts.new self.old self.new result }
     {
-        let acts = tell_interface(acts, purpose.intf, IntfStage::Enumerated)?;
+        tell_interface(acts, purpose.intf, IntfStage::Enumerated)?;
         self.interfaces.enumerate(purpose.intf, bytes);
-        Ok(acts)
+        Ok(())
     }
 
     /// The manifest is refused, and the interface fails.
     fn manifest_refused(
         &mut self,
-        acts: Acts,
+        acts: &mut Acts,
         purpose: Purpose,
         refused: Refused,
-    ) -> Result<Acts, OutOfMemory>
+    ) -> Result<(), OutOfMemory>
         ensures { TurnsAfter (telling (entry.Manifest purpose.intf refused.at refused.reason)
-            (failed_turn (interface_fails purpose (host_of self.old)))) acts
-            self.old self.new result }
+            (failed_turn (interface_fails purpose (host_of self.old))))
+            acts.old acts.new self.old self.new result }
     {
-        let mut acts = acts;
         acts.push(Act::Tell {
             entry: Entry::Manifest {
                 intf: purpose.intf,
@@ -210,8 +217,8 @@ impl Host {
                 reason: refused.reason,
             },
         })?;
-        let acts = self.interface_fails(acts, purpose)?;
-        Ok(acts)
+        self.interface_fails(acts, purpose)?;
+        Ok(())
     }
 
     /// The size of its manifest that was told of an interface, 0 where it is absent.

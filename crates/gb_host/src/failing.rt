@@ -1,6 +1,6 @@
 //! What fails where a sequence of the application processor fails.
 
-ghost use Rattle.std.specs.Prelude.{◌≡◌, ◌∷◌, ◌++◌, [], IfOk, map};
+ghost use Rattle.std.specs.Prelude.{◌≡◌, ◌∷◌, ◌++◌, [], OnOk, map};
 ghost use Rattle.gb_base.specs.declared.entry.Entry.TheVariants as entry;
 ghost use Rattle.gb_host.specs.Turning.{spelled};
 ghost use Rattle.gb_host.specs.declared.acts.Act.TheVariants as act;
@@ -26,10 +26,20 @@ impl Host {
         ensures step { (h : machine.Host) → Stands self.old h
             → TurnsAs (failed_turn (unsent purpose h)) self.old self.new result }
     {
-        let acts = Acts::new(self.alloc);
+        let mut acts = Acts::new(self.alloc);
+        self.unsent_fails(&mut acts, purpose)?;
+        Ok(acts)
+    }
+
+    /// What is told where no identifier was left for the request of a purpose goes to the end of
+    /// the acts.
+    fn unsent_fails(&mut self, acts: &mut Acts, purpose: Purpose) -> Result<(), OutOfMemory>
+        ensures { TurnsAfter (failed_turn (unsent purpose (host_of self.old)))
+            acts.old acts.new self.old self.new result }
+    {
         match purpose.step {
             SequenceStep::CreateControl => self.interface_fails(acts, purpose),
-            SequenceStep::CreateConnection => Ok(acts),
+            SequenceStep::CreateConnection => Ok(()),
             SequenceStep::GiveDevice => self.device_fails(acts, purpose),
             _ => self.step_fails(acts, purpose),
         }
@@ -38,9 +48,13 @@ impl Host {
     /// A step of a sequence isn't answered as it should be: its connection fails in a connect or
     /// close, the interface in an enumeration, and both where the Control connection was
     /// to be made.
-    pub(crate) fn step_fails(&mut self, acts: Acts, purpose: Purpose) -> Result<Acts, OutOfMemory>
+    pub(crate) fn step_fails(
+        &mut self,
+        acts: &mut Acts,
+        purpose: Purpose,
+    ) -> Result<(), OutOfMemory>
         ensures { TurnsAfter (failed_turn (step_fails purpose.step purpose (host_of self.old)))
-            acts self.old self.new result }
+            acts.old acts.new self.old self.new result }
     {
         match purpose.step {
             SequenceStep::CreateControl => self.control_fails(acts, purpose),
@@ -54,83 +68,81 @@ impl Host {
     }
 
     /// The connection of a purpose fails.
-    fn link_fails(&mut self, acts: Acts, purpose: Purpose) -> Result<Acts, OutOfMemory>
+    fn link_fails(&mut self, acts: &mut Acts, purpose: Purpose) -> Result<(), OutOfMemory>
         ensures { TurnsAfter (failed_turn (link_fails purpose (host_of self.old)))
-            acts self.old self.new result }
+            acts.old acts.new self.old self.new result }
     {
-        let acts = self.tell_link(acts, purpose, ConnState::Failed)?;
+        self.tell_link(acts, purpose, ConnState::Failed)?;
         self.links
             .set_state(purpose.intf, purpose.cport, ConnState::Failed);
-        Ok(acts)
+        Ok(())
     }
 
     /// The interface of a purpose fails.
     pub(crate) fn interface_fails(
         &mut self,
-        acts: Acts,
+        acts: &mut Acts,
         purpose: Purpose,
-    ) -> Result<Acts, OutOfMemory>
+    ) -> Result<(), OutOfMemory>
         ensures { TurnsAfter (failed_turn (interface_fails purpose (host_of self.old)))
-            acts self.old self.new result }
+            acts.old acts.new self.old self.new result }
     {
-        let acts = tell_interface(acts, purpose.intf, IntfStage::Failed)?;
+        tell_interface(acts, purpose.intf, IntfStage::Failed)?;
         self.interfaces.set_stage(purpose.intf, IntfStage::Failed);
-        Ok(acts)
+        Ok(())
     }
 
     /// The interface of a purpose fails, and is to have no device id.
-    fn device_fails(&mut self, acts: Acts, purpose: Purpose) -> Result<Acts, OutOfMemory>
+    fn device_fails(&mut self, acts: &mut Acts, purpose: Purpose) -> Result<(), OutOfMemory>
         ensures { TurnsAfter (failed_turn (interface_fails purpose
             (with_interface purpose.intf without_device (host_of self.old))))
-            acts self.old self.new result }
+            acts.old acts.new self.old self.new result }
     {
-        let acts = tell_interface(acts, purpose.intf, IntfStage::Failed)?;
+        tell_interface(acts, purpose.intf, IntfStage::Failed)?;
         self.interfaces.set_device(purpose.intf, None);
         self.interfaces.set_stage(purpose.intf, IntfStage::Failed);
-        Ok(acts)
+        Ok(())
     }
 
     /// The Control connection fails, and then its interface.
-    fn control_fails(&mut self, acts: Acts, purpose: Purpose) -> Result<Acts, OutOfMemory>
+    fn control_fails(&mut self, acts: &mut Acts, purpose: Purpose) -> Result<(), OutOfMemory>
         ensures { TurnsAfter (failed_turn (control_fails purpose (host_of self.old)))
-            acts self.old self.new result }
+            acts.old acts.new self.old self.new result }
     {
-        let acts = self.tell_link(acts, purpose, ConnState::Failed)?;
-        let acts = tell_interface(acts, purpose.intf, IntfStage::Failed)?;
+        self.tell_link(acts, purpose, ConnState::Failed)?;
+        tell_interface(acts, purpose.intf, IntfStage::Failed)?;
         self.links
             .set_state(purpose.intf, purpose.cport, ConnState::Failed);
         self.interfaces.set_stage(purpose.intf, IntfStage::Failed);
-        Ok(acts)
+        Ok(())
     }
 
     /// It is told that the connection of a purpose has a state, where there is one.
     pub(crate) fn tell_link(
         &self,
-        acts: Acts,
+        acts: &mut Acts,
         purpose: Purpose,
         to: ConnState,
-    ) -> Result<Acts, OutOfMemory>
-        ensures { IfOk result (λ all. all ≡ acts ++ spelled (map turns.Act.Tell
+    ) -> Result<(), OutOfMemory>
+        ensures { OnOk result (acts.new ≡ acts.old ++ spelled (map turns.Act.Tell
             (told_of to (link_at purpose.intf purpose.cport (host_of self.now))))) }
     {
-        let mut acts = acts;
         if let Some(link) = self.links.at(purpose.intf, purpose.cport) {
             acts.push(link_told(link, to))?;
         }
-        Ok(acts)
+        Ok(())
     }
 }
 
 /// It is told that an interface has a stage.
-pub(crate) fn tell_interface(acts: Acts, intf: u8, stage: IntfStage) -> Result<Acts, OutOfMemory>
-    ensures { IfOk result (λ all. all ≡ acts
+pub(crate) fn tell_interface(acts: &mut Acts, intf: u8, stage: IntfStage) -> Result<(), OutOfMemory>
+    ensures { OnOk result (acts.new ≡ acts.old
         ++ spelled (turns.Act.Tell (entry.Interface intf stage) ∷ [])) }
 {
-    let mut acts = acts;
     acts.push(Act::Tell {
         entry: Entry::Interface { intf, stage },
     })?;
-    Ok(acts)
+    Ok(())
 }
 
 /// It is told that a connection has a state.

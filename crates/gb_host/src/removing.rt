@@ -1,6 +1,6 @@
 //! The removal of a module.
 
-ghost use Rattle.std.specs.Prelude.{◌≡◌, ◌==◌, ◌++◌, ◌∷◌, [], OnOk, IfOk};
+ghost use Rattle.std.specs.Prelude.{◌≡◌, ◌==◌, ◌++◌, ◌∷◌, [], OnOk};
 ghost use Rattle.std.specs.List.{filter, list_any};
 ghost use Rattle.gb_host.specs.Turning.{spelled};
 ghost use Rattle.gb_machine.specs.Host.{all_forgotten, interfaces_of};
@@ -18,63 +18,61 @@ impl Host {
 
     /// The interfaces of a module are absent from now on, one after another: the connections of
     /// each are closed in order of number.
-    pub(crate) fn removed(&mut self, acts: Acts, primary: u8) -> Result<Acts, OutOfMemory>
+    pub(crate) fn removed(&mut self, acts: &mut Acts, primary: u8) -> Result<(), OutOfMemory>
         ensures { TurnsAfter
             (one_by_one host_removed (interfaces_of primary (host_of self.old)) (host_of self.old))
-            acts self.old self.new result }
+            acts.old acts.new self.old self.new result }
     {
         let intfs = self.interfaces.of(self.alloc, primary)?;
-        let acts = self.leave_module(acts, intfs.items())?;
+        self.leave_module(acts, intfs.items())?;
         self.forget(intfs.items());
-        Ok(acts)
+        Ok(())
     }
 
     /// Interfaces are left and told to be removed, one after another.
-    fn leave_module(&self, acts: Acts, intfs: &[u8]) -> Result<Acts, OutOfMemory>
-        ensures { IfOk result (λ all. all
-            ≡ acts ++ spelled (one_by_one host_removed intfs.now (host_of self.now)).acts) }
+    fn leave_module(&self, acts: &mut Acts, intfs: &[u8]) -> Result<(), OutOfMemory>
+        ensures { OnOk result (acts.new
+            ≡ acts.old ++ spelled (one_by_one host_removed intfs.now (host_of self.now)).acts) }
     {
-        let mut acts = acts;
         for (i, intf) in intfs.iter().enumerate() {
             let (gone, _) = intfs.split_at(i);
-            acts = self.leave_interface(acts, gone, *intf)?;
+            self.leave_interface(acts, gone, *intf)?;
         }
-        Ok(acts)
+        Ok(())
     }
 
     /// An interface is left and told to be removed, once others are gone.
-    fn leave_interface(&self, acts: Acts, gone: &[u8], intf: u8) -> Result<Acts, OutOfMemory>
-        ensures { IfOk result (λ all. all ≡ acts ++ spelled (host_removed intf
+    fn leave_interface(&self, acts: &mut Acts, gone: &[u8], intf: u8) -> Result<(), OutOfMemory>
+        ensures { OnOk result (acts.new ≡ acts.old ++ spelled (host_removed intf
             (one_by_one host_removed gone.now (host_of self.now)).host).acts) }
     {
-        let acts = self.leave_rest(acts, gone, intf)?;
-        let acts = tell_interface(acts, intf, IntfStage::Removed)?;
-        Ok(acts)
+        self.leave_rest(acts, gone, intf)?;
+        tell_interface(acts, intf, IntfStage::Removed)?;
+        Ok(())
     }
 
     /// The connections of an interface are closed and given up. One that is gone already has none
     /// left; no run leads to a host that knows a number twice, but each has its turn.
-    fn leave_rest(&self, acts: Acts, gone: &[u8], intf: u8) -> Result<Acts, OutOfMemory>
-        ensures { IfOk result (λ all. all ≡ acts ++ spelled (links_left (links_of intf
+    fn leave_rest(&self, acts: &mut Acts, gone: &[u8], intf: u8) -> Result<(), OutOfMemory>
+        ensures { OnOk result (acts.new ≡ acts.old ++ spelled (links_left (links_of intf
             (one_by_one host_removed gone.now (host_of self.now)).host))) }
     {
         if is_among(gone, intf) {
-            return Ok(acts);
+            return Ok(());
         }
-        let acts = self.leave_all(acts, intf)?;
-        Ok(acts)
+        self.leave_all(acts, intf)?;
+        Ok(())
     }
 
     /// The connections of an interface are closed and given up, one after another.
-    fn leave_all(&self, acts: Acts, intf: u8) -> Result<Acts, OutOfMemory>
-        ensures { IfOk result (λ all. all
-            ≡ acts ++ spelled (links_left (links_of intf (host_of self.now)))) }
+    fn leave_all(&self, acts: &mut Acts, intf: u8) -> Result<(), OutOfMemory>
+        ensures { OnOk result (acts.new
+            ≡ acts.old ++ spelled (links_left (links_of intf (host_of self.now)))) }
     {
-        let mut acts = acts;
         for link in self.links.items() {
-            close(&mut acts, *link, intf)?;
+            close(acts, *link, intf)?;
         }
-        Ok(acts)
+        Ok(())
     }
 
     /// Interfaces and their connections are there no more, and the ids of these are free.

@@ -1,6 +1,6 @@
 //! What the application processor does at what it takes notice of.
 
-ghost use Rattle.std.specs.Prelude.{◌≡◌, ◌≢◌, None};
+ghost use Rattle.std.specs.Prelude.{◌≡◌, ◌≢◌, [], None};
 ghost use Rattle.gb_base.specs.declared.steps.SequenceStep.TheVariants as steps;
 ghost use Rattle.gb_machine.specs.Host as machine;
 ghost use Rattle.gb_machine.specs.HostTurns.{host_ended, host_turn};
@@ -31,7 +31,26 @@ impl Host {
         ensures step { (h : machine.Host) → Stands self.old h → HasInterfaces event
             → TurnsAs (host_turn event h) self.old self.new result }
     {
-        let acts = Acts::new(self.alloc);
+        let mut acts = Acts::new(self.alloc);
+        self.on_into(event, &mut acts)?;
+        Ok(acts)
+    }
+
+    /// The same, in a list that was made before: afterwards it has what is to be done and nothing
+    /// else, whatever it had, and keeps its memory. After OutOfMemory nothing is said of the list.
+    pub fn on_into(&mut self, event: HostEvent, acts: &mut Acts) -> Result<(), OutOfMemory>
+        ensures step { (h : machine.Host) → Stands self.old h → HasInterfaces event
+            → TurnsAfter (host_turn event h) [] acts.new self.old self.new result }
+    {
+        acts.clear();
+        self.turn(acts, event)
+    }
+
+    /// What is to be done at something goes to the end of the acts.
+    fn turn(&mut self, acts: &mut Acts, event: HostEvent) -> Result<(), OutOfMemory>
+        ensures { HasInterfaces event → TurnsAfter (host_turn event (host_of self.old))
+            acts.old acts.new self.old self.new result }
+    {
         match event {
             HostEvent::Inserted { primary, count } => self.inserted(acts, primary, count),
             HostEvent::Removed { primary } => self.removed(acts, primary),
@@ -44,17 +63,17 @@ impl Host {
     }
 
     /// A request ended. Nothing starts where no sequence waited for it.
-    fn ended(&mut self, acts: Acts, number: u64, outcome: Outcome) -> Result<Acts, OutOfMemory>
-        ensures { TurnsAfter (host_ended number outcome (host_of self.old)) acts
-            self.old self.new result }
+    fn ended(&mut self, acts: &mut Acts, number: u64, outcome: Outcome) -> Result<(), OutOfMemory>
+        ensures { TurnsAfter (host_ended number outcome (host_of self.old))
+            acts.old acts.new self.old self.new result }
     {
         let Some(purpose) = self.awaited(number) else {
-            return Ok(acts);
+            return Ok(());
         };
         let back = self.waits(purpose);
         self.wait(purpose, None);
         match self.answered(acts, purpose, outcome) {
-            Ok(acts) => Ok(acts),
+            Ok(()) => Ok(()),
             Err(refused) => {
                 self.wait(purpose, back);
                 Err(refused)
@@ -66,12 +85,12 @@ impl Host {
     /// else fails.
     fn answered(
         &mut self,
-        acts: Acts,
+        acts: &mut Acts,
         purpose: Purpose,
         outcome: Outcome,
-    ) -> Result<Acts, OutOfMemory>
-        ensures { TurnsAfter (step_answered (payload_in outcome) purpose (host_of self.old)) acts
-            self.old self.new result }
+    ) -> Result<(), OutOfMemory>
+        ensures { TurnsAfter (step_answered (payload_in outcome) purpose (host_of self.old))
+            acts.old acts.new self.old self.new result }
     {
         let Some(payload) = payload_in(outcome) else {
             return self.step_fails(acts, purpose);
@@ -83,9 +102,9 @@ impl Host {
     }
 
     /// What follows a step that was answered as it should be.
-    fn done(&mut self, acts: Acts, purpose: Purpose, payload: Bytes) -> Result<Acts, OutOfMemory>
-        ensures { TurnsAfter (step_done purpose.step purpose payload (host_of self.old)) acts
-            self.old self.new result }
+    fn done(&mut self, acts: &mut Acts, purpose: Purpose, payload: Bytes) -> Result<(), OutOfMemory>
+        ensures { TurnsAfter (step_done purpose.step purpose payload (host_of self.old))
+            acts.old acts.new self.old self.new result }
     {
         if purpose.step == SequenceStep::AskManifest {
             return self.manifest_told(acts, purpose, payload);
@@ -96,13 +115,13 @@ impl Host {
     /// What follows a step whose answer is only read: any but that for the manifest, which is kept.
     fn done_by_reading(
         &mut self,
-        acts: Acts,
+        acts: &mut Acts,
         purpose: Purpose,
         payload: &[u8],
-    ) -> Result<Acts, OutOfMemory>
+    ) -> Result<(), OutOfMemory>
         requires { purpose.step ≢ steps.AskManifest }
-        ensures { TurnsAfter (step_done purpose.step purpose payload.now (host_of self.old)) acts
-            self.old self.new result }
+        ensures { TurnsAfter (step_done purpose.step purpose payload.now (host_of self.old))
+            acts.old acts.new self.old self.new result }
     {
         match purpose.step {
             SequenceStep::EnableVsys => self.go_on(acts, purpose, SequenceStep::EnableRefclk),

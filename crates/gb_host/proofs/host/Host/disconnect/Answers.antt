@@ -13,8 +13,8 @@ returns c =
     let p = purpose c.args.intf c.args.cport steps.TellDisconnecting in
     let h = host_of c.args.self.now in
     let new = record c.ask_in_state.new.self { images = c.forget.new.self } in
-    subst (λ o. Turns (disconnects o p h) c.args.acts new c.in_ok-acts.acts)
+    subst (λ o. Turns (disconnects o p h) c.args.acts.now new c.ask_in_state.new.acts)
     (sym c.in-Some.is ∙ c.at.ensures)
-    (disconnected c.args.intf c.args.cport c.in-Some.link h c.args.acts c.begin_close.new.acts
-    c.in_ok-acts.acts c.ask_in_state.new.self c.forget.new.self c.in_ok-begin_close.ensures
-    c.in_ok-acts.ensures c.forget.ensures)
+    (disconnected c.args.intf c.args.cport c.in-Some.link h c.args.acts.now c.begin_close.new.acts
+    c.ask_in_state.new.acts c.ask_in_state.new.self c.forget.new.self c.in_ok-begin_close.ensures
+    c.in_ok-ask_in_state.ensures c.forget.ensures)

@@ -2,7 +2,6 @@
 use Rattle.std.proofs.Common.{sym, ap, ◌∙◌}
 use Rattle.std.specs.Option.{is_some}
 use Rattle.gb_host.proofs.Unawaited.{unawaited-ended}
-use Rattle.gb_host.specs.Stands.{host_of}
 use Rattle.gb_host.proofs.host.Host.is_awaited.Goals as goal
 use Rattle.gb_machine.specs.Waits.{awaited}
 

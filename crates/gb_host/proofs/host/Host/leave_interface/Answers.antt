@@ -4,5 +4,5 @@ use Rattle.gb_host.proofs.host.Host.leave_interface.Goals as goal
 
 pub returns : goal.returns
 returns c =
-    spelled-after _ _ c.args.acts c.in_ok-acts.acts c.in_ok-acts-2.acts c.in_ok-acts.ensures
-    c.in_ok-acts-2.ensures
+    spelled-after _ _ c.args.acts.now c.leave_rest.new.acts c.tell_interface.new.acts
+    c.in_ok-leave_rest.ensures c.in_ok-tell_interface.ensures

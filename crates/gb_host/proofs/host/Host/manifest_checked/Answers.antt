@@ -9,7 +9,7 @@ use Rattle.gb_host.proofs.host.Host.manifest_checked.Goals as goal
 
 pub returns-in-Some : goal.returns-in-Some
 returns-in-Some c =
-    subst (λ t. TurnsAfter t c.args.acts c.args.self.now c.manifest_refused.new.self
+    subst (λ t. TurnsAfter t c.args.acts.now c.manifest_refused.new.acts c.args.self.now c.manifest_refused.new.self
     c.manifest_refused.result)
     (refused-checked (check_answer c.args.bytes) c.refused_in.result c.in-Some.refused
     c.args.purpose c.args.bytes (host_of c.args.self.now)

@@ -10,9 +10,9 @@ use Rattle.gb_machine.specs.HostTurns.{host_removed, one_by_one}
 pub returns : goal.returns
 returns c =
     let h = host_of c.args.self.now in
-    removed-turns (interfaces_of c.args.primary h) c.args.self.now c.forget.new.self c.args.acts
-    c.in_ok-acts.acts
+    removed-turns (interfaces_of c.args.primary h) c.args.self.now c.forget.new.self c.args.acts.now
+    c.leave_module.new.acts
     (c.forget.ensures ∙ ap (λ is. (one_by_one host_removed is h).host)
     (c.items-2.ensures ∙ c.in_ok-intfs.ensures))
-    (c.in_ok-acts.ensures ∙ ap (λ is. c.args.acts ++ spelled (one_by_one host_removed is h).acts)
+    (c.in_ok-leave_module.ensures ∙ ap (λ is. c.args.acts.now ++ spelled (one_by_one host_removed is h).acts)
     (c.items.ensures ∙ c.in_ok-intfs.ensures))
