@@ -71,6 +71,7 @@ impl Host {
     }
 
     /// Serves a request of the supervisory controller.
+    #[inline(never)]
     fn serve_svc(&self, kind: u8, payload: &[u8]) -> Result<HostServed, OutOfMemory>
         ensures step { IfOk result
             (λ s. serves_svc kind payload.now (host_of self.now) ≡ served_of s self.now) }
@@ -116,6 +117,7 @@ impl Host {
     }
 
     /// Serves a request of a GPIO: an interrupt is told.
+    #[inline(never)]
     fn serve_gpio(&self, link: Link, kind: u8, payload: &[u8]) -> HostServed
         ensures { serves_gpio link kind payload.now (host_of self.now)
             ≡ served_of result self.now }
@@ -132,6 +134,7 @@ impl Host {
     }
 
     /// Serves a request of a UART.
+    #[inline(never)]
     fn serve_uart(
         &mut self,
         link: Link,
@@ -204,6 +207,7 @@ impl Host {
     }
 
     /// Serves a request of a firmware device.
+    #[inline(never)]
     fn serve_firmware(
         &mut self,
         link: Link,
