@@ -19,7 +19,7 @@ use Rattle.gb_bus.specs.declared.answers.About.{About}
 use Rattle.gb_machine.specs.Bus.{Bus, Request, connection_of, is_open, request_of}
 use Rattle.gb_machine.specs.Host.{is_draining, link_of}
 use Rattle.gb_machine.specs.HostActs.{follows, host_follows, idles, idles_behind, notices, turns}
-use Rattle.gb_machine.specs.HostTurns.{drained, host_disconnects}
+use Rattle.gb_machine.specs.HostTurns.{drained, host_disconnects, host_turn}
 use Rattle.gb_machine.specs.LawsBus.{is_awaited}
 use Rattle.gb_machine.specs.Lists.{holds_of}
 use Rattle.gb_machine.specs.Loading.{load_follows, load_of}
@@ -129,6 +129,23 @@ follows-then over how is d e =
     does-by_state (λ t. notices (host_event.Ended over.number how)
     ▸ given (request_of over.number t.bus) idles_behind)
     (does-then d (does-given idles_behind is.request is.made e))
+
+-- nothing is done where no sequence waits for a request
+pub unawaited : {x : Parties} {s : State} {a : List Entry} (n : ℕ) (how : Outcome)
+    → host_turn (host_event.Ended n how) s.host ≡ turn s.host [] → PartsStand [] x s
+    → Does x (notices (host_event.Ended n how)) s a a
+unfolding machine_opened
+unawaited n how quiet st =
+    does-by_state (λ t. turns (host_turn (host_event.Ended n how) t.host))
+    (does-as (sym (ap (λ t. turns t _) quiet)) (does-nothing st))
+
+-- what is told leaves the turn of the application processor
+pub quiet-told : (e : Entry) (n : ℕ) (how : Outcome) (s : State)
+    → host_turn (host_event.Ended n how) s.host ≡ turn s.host []
+    → host_turn (host_event.Ended n how) (tell e s).state.host ≡ turn (tell e s).state.host []
+quiet-told e n how s quiet =
+    subst (λ (t : State). host_turn (host_event.Ended n how) t.host ≡ turn t.host [])
+    (sym (told-state e s)) quiet
 
 -- and then a download goes on
 pub loads-then : {x y : Parties} {s : State} {a b c : List Entry} (n : ℕ) (how was : Outcome)

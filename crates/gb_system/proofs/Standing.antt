@@ -6,6 +6,7 @@ use Rattle.gb_bus.proofs.Loosening.{let-go}
 use Rattle.gb_bus.specs.Stands as bus
 use Rattle.gb_bus.specs.declared.bus.Bus.{Bus}
 use Rattle.gb_host.specs.Stands as host
+use Rattle.gb_host.specs.declared.acts.Act.{Act}
 use Rattle.gb_host.specs.declared.host.Host.{Host}
 use Rattle.gb_invariants.specs.Facts.{Loose}
 use Rattle.gb_machine.proofs.Lists.{nth-past, nth-push, nth-push-below, nth-more}
@@ -141,6 +142,19 @@ pub rehosted : {x : Parties} {s : State} {loose : List Loose} (y : Host) (h : ma
 rehosted {x} {s} {loose} y h st on_host =
     standing loose x.bus s.bus x.held s.held x.ladder s.ports y h s.past st st.bus st.requests
     st.ports on_host
+
+-- The room for what is to be done is no matter of a state.
+pub reroomed : {x : Parties} {s : State} {loose : List Loose} (acts : List Act)
+    → PartsStand loose x s → PartsStand loose (record x { acts = acts }) s
+reroomed acts st = record {
+  bus = st.bus;
+  requests = st.requests;
+  ports = st.ports;
+  plugged = st.plugged;
+  host = st.host;
+  names = st.names;
+  rest = st.rest;
+}
 
 -- The past is no matter of theirs.
 pub repast : {x : Parties} {s : State} {loose : List Loose} (past : Past) → PartsStand loose x s

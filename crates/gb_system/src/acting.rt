@@ -20,7 +20,8 @@ use gb_base::{
     TryCopy,
 };
 use gb_bus::AttachFault;
-use gb_host::{Act, SVC};
+use gb_host::{Act, Acts, SVC};
+use std::mem::replace;
 
 impl Parties {
     /// The application processor takes notice of something, and does what it does then.
@@ -29,7 +30,8 @@ impl Parties {
             → MayTurn event s
             → Does self.new (notices event) s told.old told.new) }
     {
-        let acts = self.host.on(event)?;
+        let mut acts = replace(&mut self.acts, Acts::new(self.alloc));
+        self.host.on_into(event, &mut acts)?;
         let mut skips = false;
         for act in acts.items() {
             if skips {
@@ -38,6 +40,7 @@ impl Parties {
             }
             skips = self.act(act, told)?;
         }
+        self.acts = acts;
         Ok(())
     }
 

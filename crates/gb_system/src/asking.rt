@@ -1,7 +1,10 @@
 //! Requests that are made, and told.
 
-ghost use Rattle.std.specs.Prelude.{◌≡◌, [], false, IfOk, OnOk, option_map};
+ghost use Rattle.std.specs.Prelude.{◌≡◌, [], ◌∷◌, ◌++◌, false, IfOk, OnOk, option_map};
+ghost use Rattle.gb_base.specs.declared.bridge.Reading.TheVariants as reading;
 ghost use Rattle.gb_base.specs.declared.end.Side.TheVariants as side;
+ghost use Rattle.gb_base.specs.declared.entry.Entry.TheVariants as entry;
+ghost use Rattle.gb_base.specs.declared.outcome.Outcome.TheVariants as outcome;
 ghost use Rattle.gb_bus.specs.Sending.{label_on};
 ghost use Rattle.gb_machine.specs.Asking.{asks};
 ghost use Rattle.gb_machine.specs.Bus.{next_number};
@@ -68,11 +71,7 @@ impl Parties {
         };
         told.push(asked(self.alloc, q, ends, sent)?)?;
         if q.oneway {
-            told.push(Entry::Ended {
-                number: sent.number,
-                outcome: Outcome::Sent,
-                reading: Reading::Nothing,
-            })?;
+            tell_sent(sent.number, told)?;
         }
         Ok(Some(sent.number))
     }
@@ -139,6 +138,19 @@ fn asked(alloc: Global, q: &Draft<'_>, ends: (u16, End), sent: Sent) -> Result<E
         size: size_of(q.payload),
         bytes: request_bytes(alloc, sent.label, q.kind, q.payload)?,
         lost: sent.lost,
+    })
+}
+
+/// A request that gets no response was sent, and has ended so.
+#[inline(always)]
+fn tell_sent(number: u64, told: &mut Entries) -> Result<(), OutOfMemory>
+    ensures { OnOk result
+        (told.new ≡ told.old ++ entry.Ended number outcome.Sent reading.Nothing ∷ []) }
+{
+    told.push(Entry::Ended {
+        number,
+        outcome: Outcome::Sent,
+        reading: Reading::Nothing,
     })
 }
 

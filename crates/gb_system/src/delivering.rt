@@ -1,6 +1,7 @@
 //! Deliveries, and settles, which are deliveries in a fixed order.
 
-ghost use Rattle.std.specs.Prelude.{◌≡◌, List};
+ghost use Rattle.std.specs.Prelude.{◌≡◌, [], ◌∷◌, ◌++◌, List, OnOk};
+ghost use Rattle.gb_base.specs.declared.entry.Entry.TheVariants as entry;
 ghost use Rattle.gb_base.specs.declared.event.Event.TheVariants as event;
 ghost use Rattle.gb_invariants.specs.Facts.{Loose};
 ghost use Rattle.gb_machine.specs.Bus.{Connection};
@@ -15,7 +16,7 @@ ghost use Rattle.gb_system.specs.Stands.{PartiesStand, PartsStand};
 use crate::ending::Over;
 use crate::parties::Parties;
 use crate::stop::Stop;
-use gb_base::{End, Entries, Entry, Outcome, Reading, Refusal, Side};
+use gb_base::{End, Entries, Entry, OutOfMemory, Outcome, RawFault, Reading, Refusal, Side};
 use gb_bus::{Arrival, Arrived, DeliverFault};
 use gb_payload::SUCCESS;
 
@@ -57,11 +58,11 @@ impl Parties {
                 };
                 self.end(over, outcome, reading, told)?;
             }
-            Arrival::Late { number } => told.push(Entry::Late { number })?,
-            Arrival::LateLabel { label } => told.push(Entry::LateLabel { label })?,
-            Arrival::UnknownLabel { label } => told.push(Entry::UnknownLabel { label })?,
-            Arrival::BadRaw { fault } => told.push(Entry::BadRaw { fault })?,
-            Arrival::Dropped { number, reply } => told.push(Entry::Dropped { number, reply })?,
+            Arrival::Late { number } => tell_late(number, told)?,
+            Arrival::LateLabel { label } => tell_late_label(label, told)?,
+            Arrival::UnknownLabel { label } => tell_unknown_label(label, told)?,
+            Arrival::BadRaw { fault } => tell_bad_raw(fault, told)?,
+            Arrival::Dropped { number, reply } => tell_dropped(number, reply, told)?,
         }
         Ok(())
     }
@@ -114,4 +115,47 @@ fn side_of(at: End) -> Side
         End::Ap(_) => Side::Ap,
         End::Svc | End::Module { .. } => Side::Far,
     }
+}
+
+// Each entry that seldom comes is laid out in a function of its own, so that the others don't pay
+// for its room.
+
+/// An answer came to a request that had ended before.
+#[inline(always)]
+fn tell_late(number: u64, told: &mut Entries) -> Result<(), OutOfMemory>
+    ensures { OnOk result (told.new ≡ told.old ++ entry.Late number ∷ []) }
+{
+    told.push(Entry::Late { number })
+}
+
+/// A response came whose identifier is that of a request which was given up.
+#[inline(always)]
+fn tell_late_label(label: u16, told: &mut Entries) -> Result<(), OutOfMemory>
+    ensures { OnOk result (told.new ≡ told.old ++ entry.LateLabel label ∷ []) }
+{
+    told.push(Entry::LateLabel { label })
+}
+
+/// A response came whose identifier no request has.
+#[inline(always)]
+fn tell_unknown_label(label: u16, told: &mut Entries) -> Result<(), OutOfMemory>
+    ensures { OnOk result (told.new ≡ told.old ++ entry.UnknownLabel label ∷ []) }
+{
+    told.push(Entry::UnknownLabel { label })
+}
+
+/// Raw bytes came that aren't one whole message.
+#[inline(always)]
+fn tell_bad_raw(fault: RawFault, told: &mut Entries) -> Result<(), OutOfMemory>
+    ensures { OnOk result (told.new ≡ told.old ++ entry.BadRaw fault ∷ []) }
+{
+    told.push(Entry::BadRaw { fault })
+}
+
+/// A message came that the end doesn't take.
+#[inline(always)]
+fn tell_dropped(number: Option<u64>, reply: bool, told: &mut Entries) -> Result<(), OutOfMemory>
+    ensures { OnOk result (told.new ≡ told.old ++ entry.Dropped number reply ∷ []) }
+{
+    told.push(Entry::Dropped { number, reply })
 }

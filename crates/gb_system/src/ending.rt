@@ -1,15 +1,19 @@
 //! Requests that end, and connections that drain.
 
-ghost use Rattle.std.specs.Prelude.{◌≡◌, [], IfOk, OnOk, Option, option_map};
+ghost use Rattle.std.specs.Prelude.{◌≡◌, [], ℕ, false, IfOk, None, OnOk, Option, option_map};
 ghost use Rattle.gb_base.specs.declared.bridge.Reading.TheVariants as reading;
 ghost use Rattle.gb_base.specs.declared.entry.Entry.TheVariants as entry;
+ghost use Rattle.gb_base.specs.declared.host_event.HostEvent.TheVariants as event;
 ghost use Rattle.gb_base.specs.declared.interface.Link.{Link};
+ghost use Rattle.gb_base.specs.declared.outcome.Outcome.{Outcome};
 ghost use Rattle.gb_machine.specs.Actions.{tell, ◌▸◌};
 ghost use Rattle.gb_machine.specs.Host.{is_draining};
-ghost use Rattle.gb_machine.specs.HostActs.{follows, host_follows, idles};
+ghost use Rattle.gb_machine.specs.HostActs.{follows, host_follows, idles, idles_behind};
+ghost use Rattle.gb_machine.specs.HostTurns.{host_turn};
 ghost use Rattle.gb_machine.specs.Lists.{holds_of};
 ghost use Rattle.gb_machine.specs.Loading.{load_of};
 ghost use Rattle.gb_machine.specs.State.{State};
+ghost use Rattle.gb_machine.specs.Turns.{turn};
 ghost use Rattle.gb_system.specs.Doing.{Does};
 ghost use Rattle.gb_system.specs.Ending.{IsAwaited, IsOver};
 ghost use Rattle.gb_laws.specs.Possible.{MayFollow, MayIdle};
@@ -33,6 +37,44 @@ impl Parties {
     /// A request ended: this is told, what waited for it goes on or fails, its connection begins to
     /// close where it drains and nothing is open on it any more, and a download goes on.
     pub fn end(
+        &mut self,
+        over: Over,
+        outcome: Outcome,
+        reading: Reading,
+        told: &mut Entries,
+    ) -> Result<(), OutOfMemory>
+        ensures step { OnOk result ((s : State) → PartsStand [] self.old s → IsOver over s
+            → MayFollow over.number outcome s
+            → Does self.new
+            (tell (entry.Ended over.number outcome reading) ▸ follows over.number outcome) s
+            told.old told.new) }
+    {
+        if self.is_awaited(over.number) {
+            self.end_awaited(over, outcome, reading, told)?;
+            return Ok(());
+        }
+        told.push(Entry::Ended {
+            number: over.number,
+            outcome,
+            reading,
+        })?;
+        self.idle_behind(over, told)?;
+        Ok(())
+    }
+
+    /// Whether a sequence of the application processor or a download waits for a request. Mostly
+    /// none does.
+    #[inline]
+    fn is_awaited(&self, number: u64) -> bool
+        ensures host { (s : State) (how : Outcome) → PartsStand [] self.now s → result ≡ false
+            → host_turn (event.Ended number how) s.host ≡ turn s.host [] }
+        ensures load { result ≡ false → load_of number self.now.loads ≡ None }
+    {
+        self.host.is_awaited(number) || self.loads.of(number).is_some()
+    }
+
+    /// A request ended for which something may wait: all is done that `end` does.
+    fn end_awaited(
         &mut self,
         over: Over,
         outcome: Outcome,
@@ -85,6 +127,17 @@ impl Parties {
     {
         let number = over.number;
         self.notice(HostEvent::Ended { number, outcome }, told)?;
+        self.idle_behind(over, told)?;
+        Ok(())
+    }
+
+    /// Behind the end of a request of the application processor its connection begins to close
+    /// where it drains and nothing is open on it any more.
+    fn idle_behind(&mut self, over: Over, told: &mut Entries) -> Result<(), OutOfMemory>
+        ensures step { OnOk result ((s t : State) → PartsStand [] self.old s
+            → ((k : ℕ) → MayIdle k s) → (is : IsOver over t)
+            → Does self.new (idles_behind is.request) s told.old told.new) }
+    {
         match over.side {
             Side::Far => Ok(()),
             Side::Ap => {

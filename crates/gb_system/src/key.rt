@@ -72,7 +72,7 @@ impl Key {
         if self.number != other.number {
             return false;
         }
-        self.name == other.name
+        self.name.who == other.name.who && self.name.word == other.name.word
     }
 
     /// How two names compare.

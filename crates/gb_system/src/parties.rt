@@ -1,6 +1,7 @@
 //! The parties and the bus between them.
 
 ghost use Rattle.std.specs.Prelude.{◌≡◌, [], ◌∷◌, IfOk, OnOk, length};
+ghost use Rattle.gb_base.specs.declared.entry.Entry.TheVariants as entry;
 ghost use Rattle.gb_formats.specs.Results.{most_payload};
 ghost use Rattle.gb_formats.specs.ValidEvents.{IsValid};
 ghost use Rattle.gb_machine.specs.State.{State, first_state};
@@ -11,9 +12,9 @@ use crate::marks::Marks;
 use crate::modules::Modules;
 use crate::names::Names;
 use crate::stop::Stop;
-use gb_base::{Entries, Entry, Event, OutOfMemory};
+use gb_base::{Entries, Entry, Event, OutOfMemory, Refusal};
 use gb_bus::Bus;
-use gb_host::Host;
+use gb_host::{Acts, Host};
 use gb_module::Stir;
 use gb_switch::Ladder;
 use std::alloc::Global;
@@ -45,6 +46,8 @@ pub struct Parties {
     pub holds: Marks,
     /// The requests that were delivered and wait to be answered.
     pub held: HeldRequests,
+    /// Room for what the application processor is to do at one notice, whatever stands there.
+    pub acts: Acts,
 }
 
 impl Parties {
@@ -67,6 +70,7 @@ impl Parties {
             time: 0,
             holds: Marks::new(alloc),
             held: HeldRequests::new(alloc),
+            acts: Acts::new(alloc),
         })
     }
 
@@ -87,7 +91,7 @@ impl Parties {
         match self.does(e, room, told) {
             Ok(()) => Ok(()),
             Err(Stop::Refused(why)) => {
-                tell_alone(told, Entry::Refused { why })?;
+                tell_refused(why, told)?;
                 Ok(())
             }
             Err(Stop::Memory(refused)) => Err(refused),
@@ -96,6 +100,7 @@ impl Parties {
 
     /// Does an event and tells what it brings about, or answers why it isn't done. One that is
     /// refused changes nothing.
+    #[inline(always)]
     fn does(&mut self, e: &Event, room: &mut [u8], told: &mut Entries) -> Result<(), Stop>
         requires valid { IsValid e.now }
         requires room { length room.old ≡ most_payload }
@@ -165,4 +170,12 @@ fn tell_alone(told: &mut Entries, one: Entry) -> Result<(), OutOfMemory>
 {
     told.clear();
     told.push(one)
+}
+
+/// It is told that an event is refused, and nothing else.
+#[inline(always)]
+fn tell_refused(why: Refusal, told: &mut Entries) -> Result<(), OutOfMemory>
+    ensures { OnOk result (told.new ≡ entry.Refused why ∷ []) }
+{
+    tell_alone(told, Entry::Refused { why })
 }

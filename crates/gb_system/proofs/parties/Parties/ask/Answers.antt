@@ -27,8 +27,8 @@ returns-in-Err-NoConnection-clause-number c = λ s st.
     sym (ap (option_map (λ l. next_number s.bus))
     (unlabelled-gone (draft_of c.args.q.now) s.bus none.gone))
 
-pub returns-in_ok-push-2-clause-number : goal.returns-in_ok-push-2-clause-number
-returns-in_ok-push-2-clause-number c = λ s st.
+pub returns-in_ok-tell_sent-clause-number : goal.returns-in_ok-tell_sent-clause-number
+returns-in_ok-tell_sent-clause-number c = λ s st.
     let sent = c.in-Ok.ensures.step (around_bus [] s) s.bus st.bus in
     ap Some sent.number ∙ sym (ap (option_map (λ l. next_number s.bus)) sent.label)
 
@@ -56,15 +56,15 @@ returns-in-Err-NoConnection-clause-step c = λ s st askable twoway.
     (rebussed [] c.send.new.self s.bus st none.stands refl)
     (unlabelled-gone (draft_of c.args.q.now) s.bus none.gone)
 
-pub returns-in_ok-push-2-clause-step : goal.returns-in_ok-push-2-clause-step
-returns-in_ok-push-2-clause-step c = λ s st askable twoway.
+pub returns-in_ok-tell_sent-clause-step : goal.returns-in_ok-tell_sent-clause-step
+returns-in_ok-tell_sent-clause-step c = λ s st askable twoway.
     let d = draft_of c.args.q.now in
     ask-made c.send.new.self d c.in-Some.ends c.in-Ok.sent st askable twoway
     (c.in-Some.ensures (around_bus [] s) s.bus st.bus)
     (c.in-Ok.ensures.step (around_bus [] s) s.bus st.bus)
-    (told-oneway c.args.told.now c.push.new.self c.push-then-q.new.self c.in_ok-asked.field-0 d
+    (told-oneway c.args.told.now c.push.new.self c.tell_sent.new.told c.in_ok-asked.field-0 d
     c.in-Some.ends c.in-Ok.sent c.if-q.true (c.in_ok-asked.ensures askable)
-    c.in_ok-push.ensures.ok c.in_ok-push-2.ensures.ok)
+    c.in_ok-push.ensures.ok c.in_ok-tell_sent.ensures)
 
 pub returns-else-q-clause-step : goal.returns-else-q-clause-step
 returns-else-q-clause-step c = λ s st askable twoway.

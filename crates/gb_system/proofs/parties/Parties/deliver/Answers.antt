@@ -60,42 +60,42 @@ returns-in_ok-end-in-Ended c = record {
       c.in_ok-end-in-Ended.ensures.step;
 }
 
-pub returns-in_ok-push-in-Late : goal.returns-in_ok-push-in-Late
-returns-in_ok-push-in-Late c = record {
+pub returns-in_ok-tell_late-in-Late : goal.returns-in_ok-tell_late-in-Late
+returns-in_ok-tell_late-in-Late c = record {
   step = λ s st.
       late-here st (sym c.if-is_unplugged.false ∙ c.is_unplugged.ensures [] s st.parts)
       (c.in-Ok.ensures.step (around_bus [] s) s.bus st.parts.bus) c.takes-takes.ensures
-      c.in-Late.number c.in-Late.is c.in_ok-push-in-Late.ensures.ok;
+      c.in-Late.number c.in-Late.is c.in_ok-tell_late-in-Late.ensures;
 }
 
-pub returns-in_ok-push-in-LateLabel : goal.returns-in_ok-push-in-LateLabel
-returns-in_ok-push-in-LateLabel c = record {
+pub returns-in_ok-tell_late_label-in-LateLabel : goal.returns-in_ok-tell_late_label-in-LateLabel
+returns-in_ok-tell_late_label-in-LateLabel c = record {
   step = λ s st.
       late_label-here st (sym c.if-is_unplugged.false ∙ c.is_unplugged.ensures [] s st.parts)
       (c.in-Ok.ensures.step (around_bus [] s) s.bus st.parts.bus) c.takes-takes.ensures
-      c.in-LateLabel.label c.in-LateLabel.is c.in_ok-push-in-LateLabel.ensures.ok;
+      c.in-LateLabel.label c.in-LateLabel.is c.in_ok-tell_late_label-in-LateLabel.ensures;
 }
 
-pub returns-in_ok-push-in-UnknownLabel : goal.returns-in_ok-push-in-UnknownLabel
-returns-in_ok-push-in-UnknownLabel c = record {
+pub returns-in_ok-tell_unknown_label-in-UnknownLabel : goal.returns-in_ok-tell_unknown_label-in-UnknownLabel
+returns-in_ok-tell_unknown_label-in-UnknownLabel c = record {
   step = λ s st.
       unknown-here st (sym c.if-is_unplugged.false ∙ c.is_unplugged.ensures [] s st.parts)
       (c.in-Ok.ensures.step (around_bus [] s) s.bus st.parts.bus) c.takes-takes.ensures
-      c.in-UnknownLabel.label c.in-UnknownLabel.is c.in_ok-push-in-UnknownLabel.ensures.ok;
+      c.in-UnknownLabel.label c.in-UnknownLabel.is c.in_ok-tell_unknown_label-in-UnknownLabel.ensures;
 }
 
-pub returns-in_ok-push-in-BadRaw : goal.returns-in_ok-push-in-BadRaw
-returns-in_ok-push-in-BadRaw c = record {
+pub returns-in_ok-tell_bad_raw-in-BadRaw : goal.returns-in_ok-tell_bad_raw-in-BadRaw
+returns-in_ok-tell_bad_raw-in-BadRaw c = record {
   step = λ s st.
       bad-here st (sym c.if-is_unplugged.false ∙ c.is_unplugged.ensures [] s st.parts)
       (c.in-Ok.ensures.step (around_bus [] s) s.bus st.parts.bus) c.takes-takes.ensures
-      c.in-BadRaw.fault c.in-BadRaw.is c.in_ok-push-in-BadRaw.ensures.ok;
+      c.in-BadRaw.fault c.in-BadRaw.is c.in_ok-tell_bad_raw-in-BadRaw.ensures;
 }
 
-pub returns-in_ok-push-in-Dropped : goal.returns-in_ok-push-in-Dropped
-returns-in_ok-push-in-Dropped c = record {
+pub returns-in_ok-tell_dropped-in-Dropped : goal.returns-in_ok-tell_dropped-in-Dropped
+returns-in_ok-tell_dropped-in-Dropped c = record {
   step = λ s st.
       dropped-here st (sym c.if-is_unplugged.false ∙ c.is_unplugged.ensures [] s st.parts)
       (c.in-Ok.ensures.step (around_bus [] s) s.bus st.parts.bus) c.takes-takes.ensures
-      c.in-Dropped.number c.in-Dropped.reply c.in-Dropped.is c.in_ok-push-in-Dropped.ensures.ok;
+      c.in-Dropped.number c.in-Dropped.reply c.in-Dropped.is c.in_ok-tell_dropped-in-Dropped.ensures;
 }

@@ -7,14 +7,16 @@ use Rattle.gb_machine.specs.HostTurns.{host_turn}
 use Rattle.gb_system.proofs.Midways.{drop-next}
 use Rattle.gb_system.proofs.Notices.{Acting, acting-end, acting-first, acting-more, acting-skip}
 use Rattle.gb_system.proofs.Notices.{interfaces-fit}
+use Rattle.gb_system.proofs.Standing.{reroomed}
 use Rattle.gb_system.proofs.parties.Parties.notice.Goals as goal
 
 pub loop-act-init : goal.loop-act-init
 loop-act-init c = λ s st may.
-    acting-first c.args.event c.on.new.self c.items-act-items.result.now st
+    acting-first c.args.event c.on_into.new.self c.items-act-items.result.now
+    (reroomed c.replace-acts.new.dest st)
     (subst (λ (all : List Act). Turns (host_turn c.args.event s.host) []
-    c.on.new.self all) (sym c.items-act-items.ensures)
-    (c.in_ok-acts.ensures.step s.host st.host (interfaces-fit c.args.event may.0))) may
+    c.on_into.new.self all) (sym c.items-act-items.ensures)
+    (c.in_ok-on_into.ensures.step s.host st.host (interfaces-fit c.args.event may.0))) may
 
 pub loop-act-preserved-then-skips : goal.loop-act-preserved-then-skips
 loop-act-preserved-then-skips c = λ s st may.
@@ -39,7 +41,11 @@ loop-act-preserved c = λ s st may.
 pub returns : goal.returns
 returns c = record {
   step = λ s st may.
-      acting-end c.loop-act.skips (drop c.loop-act.act-index c.items-act-items.result.now)
+      let done = acting-end c.loop-act.skips
+      (drop c.loop-act.act-index c.items-act-items.result.now)
       (drop_of_length-le c.items-act-items.result.now c.loop-act-test.false)
-      (c.loop-act.invariant s st may);
+      (c.loop-act.invariant s st may) in record {
+        told_is = done.told_is;
+        stand = reroomed c.on_into.new.acts done.stand;
+      };
 }
