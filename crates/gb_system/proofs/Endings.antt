@@ -135,9 +135,9 @@ pub unawaited : {x : Parties} {s : State} {a : List Entry} (n : ℕ) (how : Outc
     → host_turn (host_event.Ended n how) s.host ≡ turn s.host [] → PartsStand [] x s
     → Does x (notices (host_event.Ended n how)) s a a
 unfolding machine_opened
-unawaited n how quiet st =
+unawaited {s = s} n how quiet st =
     does-by_state (λ t. turns (host_turn (host_event.Ended n how) t.host))
-    (does-as (sym (ap (λ t. turns t _) quiet)) (does-nothing st))
+    (does-as {f = nothing} (sym (ap (λ t. turns t s) quiet)) (does-nothing st))
 
 -- what is told leaves the turn of the application processor
 pub quiet-told : (e : Entry) (n : ℕ) (how : Outcome) (s : State)

@@ -1,5 +1,5 @@
 -- The end is told. Where nothing waits for the request, at most its connection closes then.
-use Rattle.std.proofs.Common.{ap, sym}
+use Rattle.std.proofs.Common.{ap, option_map, sym}
 use Rattle.gb_base.specs.declared.entry.Entry.TheVariants as entry
 use Rattle.gb_system.proofs.Doings.{does-tell, does-then}
 use Rattle.gb_system.proofs.Endings.{follow-told, follows-then, loads-none, over-told, quiet-told}
