@@ -59,13 +59,42 @@ impl Bytes {
             return Ok(Bytes::new(alloc));
         }
         if bytes.len() <= FEW {
-            let mut places = [0; FEW];
-            places[..bytes.len()].copy_from_slice(bytes);
-            return Ok(Bytes::from_front(alloc, places, bytes.len()));
+            return Ok(Bytes::few(alloc, bytes));
         }
         Ok(Bytes {
             bytes: SmallVec::from_slice(alloc, bytes)?,
         })
+    }
+
+    /// Few bytes. Those of a length up to four are laid for that length, which costs less than a
+    /// copy of any length.
+    #[inline(never)]
+    fn few(alloc: Global, bytes: &[u8]) -> Bytes
+        requires { AreFew bytes.now }
+        ensures { result ≡ bytes.now }
+    {
+        match *bytes {
+            [a] => Bytes::from_four(alloc, [a, 0, 0, 0], 1),
+            [a, b] => Bytes::from_four(alloc, [a, b, 0, 0], 2),
+            [a, b, c] => Bytes::from_four(alloc, [a, b, c, 0], 3),
+            [a, b, c, d] => Bytes::from_four(alloc, [a, b, c, d], 4),
+            _ => {
+                let mut places = [0; FEW];
+                places[..bytes.len()].copy_from_slice(bytes);
+                Bytes::from_front(alloc, places, bytes.len())
+            }
+        }
+    }
+
+    /// The first `count` of these four bytes.
+    #[inline(always)]
+    fn from_four(alloc: Global, four: [u8; 4], count: usize) -> Bytes
+        requires { count ≤ 4 }
+        ensures { result ≡ take count four }
+    {
+        let mut places = [0; FEW];
+        places[..4].copy_from_slice(&four);
+        Bytes::from_front(alloc, places, count)
     }
 
     /// The first `count` of these bytes. It takes no memory.

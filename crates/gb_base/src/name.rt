@@ -1,12 +1,26 @@
 //! Names of requests.
 
-ghost use Rattle.std.specs.Prelude.{◌≡◌, if◌then◌else◌, Some, None, nat_eq, IsAscii, ⊤};
+ghost use Rattle.std.specs.Prelude.{
+  ◌≡◌,
+  ◌≤◌,
+  ◌<◌,
+  ℕ,
+  if◌then◌else◌,
+  Some,
+  None,
+  nat_eq,
+  IsAscii,
+  IsTrue,
+  length,
+  slice_index,
+  ⊤,
+};
 ghost use Rattle.std.specs.Cmp.{partial_equiv_from_equiv};
 ghost use Rattle.std.specs.Cmp.Lexicographic.{pointwise, nat_list_eq_equiv};
-ghost use Rattle.gb_base.specs.Name.{is_name, is_name_byte};
+ghost use Rattle.std.specs.List.{list_all};
+ghost use Rattle.gb_base.specs.Name.{is_name, is_name_byte, padded};
 
 use crate::{OutOfMemory, TryCopy};
-use arrayvec::ArrayString;
 use std::alloc::AllocError;
 use std::marker::Model;
 use std::str;
@@ -17,17 +31,21 @@ const LONGEST: usize = 16;
 /// The word of a name: 1 to 16 of `a` to `z` and `0` to `9`. A contract sees the list of its bytes.
 #[derive(Drop)]
 pub struct Word {
-    text: ArrayString<16>,
+    /// The bytes, with zeros behind them.
+    places: [u8; LONGEST],
+    /// How many they are.
+    count: u8,
 }
 
 impl Model for Word {
-    ghost use Rattle.std.specs.Prelude.{ℕ, List, IsAscii};
+    ghost use Rattle.std.specs.Prelude.{ℕ, List, take};
+    ghost use Rattle.gb_base.specs.Name.{HoldsName};
 
     ghost Value = { List ℕ };
 
-    ghost view = { λ w. w.text.bytes };
+    ghost view = { λ w. take w.count w.places };
 
-    ghost invariant = { λ w. IsAscii w.text.bytes };
+    ghost invariant = { λ w. HoldsName w.count w.places };
 }
 
 impl Word {
@@ -35,19 +53,22 @@ impl Word {
     pub fn from_bytes(bytes: &[u8]) -> Option<Word>
         ensures { result ≡ (if is_name bytes.now then Some bytes.now else None) }
     {
-        if !is_name(bytes) {
+        if bytes.is_empty() || bytes.len() > LONGEST {
             return None;
         }
-        let text = str::from_utf8(bytes).unwrap();
-        let text = ArrayString::from(text).unwrap();
-        Some(Word { text })
+        let places = places_of(bytes)?;
+        Some(Word {
+            places,
+            count: bytes.len() as u8,
+        })
     }
 
     /// The bytes.
     pub fn bytes(&self) -> &[u8]
-        ensures { result.now ≡ self.now }
+        ensures bytes { result.now ≡ self.now }
+        ensures name { IsTrue (is_name self.now) }
     {
-        self.text.as_str().as_bytes()
+        &self.places[..usize::from(self.count)]
     }
 
     /// The text.
@@ -55,18 +76,39 @@ impl Word {
         ensures bytes { result.now ≡ self.now }
         ensures ascii { IsAscii self.now }
     {
-        self.text.as_str()
+        str::from_utf8(self.bytes()).unwrap()
+    }
+
+    /// The bytes, with zeros behind them.
+    #[inline(always)]
+    pub fn places(&self) -> [u8; LONGEST]
+        ensures places { result ≡ padded self.now }
+        ensures name { IsTrue (is_name self.now) }
+    {
+        self.places
     }
 }
 
-/// Whether the bytes are 1 to 16 of `a` to `z` and `0` to `9`.
-fn is_name(bytes: &[u8]) -> bool
-    ensures { result ≡ is_name bytes.now }
+/// At most 16 bytes of names with zeros behind them, None where one isn't such a byte.
+#[inline(always)]
+fn places_of(bytes: &[u8]) -> Option<[u8; LONGEST]>
+    requires { length bytes.now ≤ 16 }
+    ensures { result
+        ≡ (if list_all is_name_byte bytes.now then Some (padded bytes.now) else None) }
 {
-    !bytes.is_empty() && bytes.len() <= LONGEST && bytes.iter().all(|b| is_name_byte(*b))
+    let mut places = [0; LONGEST];
+    for i in 0..bytes.len() {
+        let byte = bytes[i];
+        if !is_name_byte(byte) {
+            return None;
+        }
+        places[i] = byte;
+    }
+    Some(places)
 }
 
 /// Whether the byte is one of `a` to `z` or `0` to `9`.
+#[inline(always)]
 pub(crate) fn is_name_byte(b: u8) -> bool
     ensures { result ≡ is_name_byte b }
 {
@@ -79,7 +121,7 @@ impl PartialEq for Word {
     ghost laws = { partial_equiv_from_equiv nat_list_eq_equiv };
 
     fn eq(&self, other: &Word) -> bool {
-        self.text == other.text
+        self.bytes() == other.bytes()
     }
 }
 
@@ -91,7 +133,10 @@ impl TryCopy for Word {
     ghost is_infallible = { λ _. ⊤ };
 
     fn copy(&self) -> Result<Word, OutOfMemory> {
-        Ok(Word { text: self.text })
+        Ok(Word {
+            places: self.places,
+            count: self.count,
+        })
     }
 }
 
