@@ -1,9 +1,10 @@
 //! Names in their order.
 
 ghost use Rattle.std.proofs.Common.{ap};
-ghost use Rattle.std.specs.Prelude.{◌≡◌, ◌<◌, ◌∷◌, ℕ, IfOk, Some, refl, slice_index};
+ghost use Rattle.std.specs.Prelude.{◌≡◌, ◌<◌, ◌∷◌, ℕ, IfOk, IsTrue, Some, refl, slice_index};
 ghost use Rattle.std.specs.Cmp as order;
 ghost use Rattle.std.specs.Hash as fed;
+ghost use Rattle.gb_base.specs.Name.{is_name};
 ghost use Rattle.gb_machine.specs.Names.{same_name};
 ghost use Rattle.gb_system.specs.NameOrder.{name_cmp, name_equiv, name_order, name_ties};
 ghost use Rattle.gb_system.specs.NameOrder.{name_total, one_name};
@@ -14,7 +15,7 @@ use std::cmp::Ordering;
 use std::hash::{Hash, Hasher};
 use std::marker::Model;
 
-/// How many bytes of a word are in a key's number, behind the requester's.
+/// How many bytes of a word are in the number by which a name is hashed, behind the requester's.
 const BYTES: usize = 15;
 
 /// A name in the order of names: by requester, then by the bytes of its word. A contract
@@ -22,21 +23,14 @@ const BYTES: usize = 15;
 #[derive(Drop)]
 pub struct Key {
     name: Name,
-    /// The requester and the first bytes of the word as one number, by which names are hashed, and
-    /// most are compared in one step.
-    number: u128,
 }
 
 impl Model for Key {
-    ghost use Rattle.std.specs.Prelude.{◌∷◌};
     ghost use Rattle.gb_base.specs.declared.name.Name.{Name};
-    ghost use Rattle.gb_system.specs.WordNumber.{IsNumberOf};
 
     ghost Value = { Name };
 
     ghost view = { λ k. k.name };
-
-    ghost invariant = { λ k. IsNumberOf k.number (k.name.who ∷ k.name.word) };
 }
 
 impl Key {
@@ -44,9 +38,7 @@ impl Key {
     pub fn of(name: &Name) -> Result<Key, OutOfMemory>
         ensures { IfOk result (λ k. k ≡ name.now) }
     {
-        let name = name.copy()?;
-        let number = number_of(name.who, name.word.bytes());
-        Ok(Key { name, number })
+        Ok(Key { name: name.copy()? })
     }
 
     /// The name.
@@ -56,53 +48,49 @@ impl Key {
         &self.name
     }
 
-    /// The number.
-    #[inline]
+    /// The requester and the first bytes of the word as one number, the requester most significant,
+    /// then the first byte, with zeros past the end.
+    #[inline(always)]
     fn number(&self) -> u128
         ensures { result ≡ name_number self.now }
     {
-        self.number
+        u128::from_be_bytes(digits_of(self.name.who, self.name.word.places()))
+    }
+
+    /// The word as one number, its first byte most significant, with zeros past the end.
+    #[inline(always)]
+    fn word(&self) -> u128
+        ensures number { IsNumberOf result self.now.word }
+        ensures name { IsTrue (is_name self.now.word) }
+    {
+        u128::from_be_bytes(self.name.word.places())
     }
 
     /// The two are one name.
-    #[inline]
+    #[inline(always)]
     fn is_same(&self, other: &Key) -> bool
         ensures { result ≡ same_name self.now other.now }
     {
-        if self.number != other.number {
-            return false;
-        }
-        self.name.who == other.name.who && self.name.word == other.name.word
+        self.name.who == other.name.who && self.word() == other.word()
     }
 
     /// How two names compare.
     fn cmp_names(&self, other: &Key) -> Ordering
         ensures { result ≡ name_cmp self.now other.now }
     {
-        if self.number != other.number {
-            return self.number.cmp(&other.number);
-        }
-        let (a, b) = (&self.name, &other.name);
-        a.who.cmp(&b.who).then(a.word.text().cmp(b.word.text()))
+        let requesters = self.name.who.cmp(&other.name.who);
+        requesters.then(self.word().cmp(&other.word()))
     }
 }
 
-/// A requester and the first 15 bytes of a word as one number, the requester most significant, then
-/// the first byte, with zeros past the end.
-fn number_of(who: u8, word: &[u8]) -> u128
-    ensures { IsNumberOf result (who ∷ word.now) }
-{
-    u128::from_be_bytes(digits_of(who, word))
-}
-
-/// A requester and the first 15 bytes of a word, with zeros past the end.
-fn digits_of(who: u8, word: &[u8]) -> [u8; 16]
-    ensures { (i : ℕ) → i < 16 → slice_index result i ≡ slice_index (who ∷ word.now) i }
+/// A requester and the first 15 bytes of a word.
+#[inline(always)]
+fn digits_of(who: u8, word: [u8; 16]) -> [u8; 16]
+    ensures { (i : ℕ) → i < 16 → slice_index result i ≡ slice_index (who ∷ word) i }
 {
     let mut digits = [0; BYTES + 1];
     digits[0] = who;
-    let count = word.len().min(BYTES);
-    digits[1..count + 1].copy_from_slice(&word[..count]);
+    digits[1..].copy_from_slice(&word[..BYTES]);
     digits
 }
 
