@@ -28,7 +28,11 @@ abbrev pub ends_of : Option End → List End → List End
 ends_of None others = others
 ends_of (Some first) others = first ∷ others
 
--- an end comes before the others, which are absent where there is none
+-- an end comes before all of these
+abbrev pub IsBelow : End → List End → Type 0
+IsBelow least ends = (at : End) → is_in ends at ≡ true → end_cmp least at ≡ Less
+
+-- the first comes before the others, which are absent where there is none
 abbrev pub ComesBefore : Option End → List End → Type 0
 ComesBefore None others = (at : End) → is_in others at ≡ false
-ComesBefore (Some first) others = (at : End) → is_in others at ≡ true → end_cmp first at ≡ Less
+ComesBefore (Some first) others = IsBelow first others

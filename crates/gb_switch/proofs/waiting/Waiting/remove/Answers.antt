@@ -8,7 +8,7 @@ pub returns-then-eq : goal.returns-then-eq
 returns-then-eq c =
     let next = c.pop_first-self-inside in
     subst
-    (λ ends. Marks ends (ends_of next.result next.new.self.keys) c.args.place false) c.self.view_is
-    (removes-first c.self.inside.first next.result c.args.place c.self.inside.others.keys
-    next.new.self.keys (sym c.eq.ensures ∙ c.if-eq.true) next.ensures.removal
-    next.ensures.unchanged c.self.invariant)
+    (λ ends. Marks ends (ends_of next.result next.new.self) c.args.place false) c.self.view_is
+    (removes-first c.self.inside.first c.args.place c.self.inside.behind
+    (ends_of next.result next.new.self) (sym c.eq.ensures ∙ c.if-eq.true) next.ensures.taken
+    c.self.invariant)
