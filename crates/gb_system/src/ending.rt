@@ -15,7 +15,7 @@ ghost use Rattle.gb_machine.specs.Loading.{load_of};
 ghost use Rattle.gb_machine.specs.State.{State};
 ghost use Rattle.gb_machine.specs.Turns.{turn};
 ghost use Rattle.gb_system.specs.Doing.{Does};
-ghost use Rattle.gb_system.specs.Ending.{IsAwaited, IsOver};
+ghost use Rattle.gb_system.specs.Ending.{IsAwaited, IsOver, TellsEnd};
 ghost use Rattle.gb_laws.specs.Possible.{MayFollow, MayIdle};
 ghost use Rattle.gb_system.specs.Stands.{PartsStand};
 
@@ -43,11 +43,8 @@ impl Parties {
         reading: Reading,
         told: &mut Entries,
     ) -> Result<(), OutOfMemory>
-        ensures step { OnOk result ((s : State) → PartsStand [] self.old s → IsOver over s
-            → MayFollow over.number outcome s
-            → Does self.new
-            (tell (entry.Ended over.number outcome reading) ▸ follows over.number outcome) s
-            told.old told.new) }
+        ensures step { OnOk result
+            (TellsEnd self.old self.new over outcome reading told.old told.new) }
     {
         if self.is_awaited(over.number) {
             self.end_awaited(over, outcome, reading, told)?;
@@ -81,11 +78,8 @@ impl Parties {
         reading: Reading,
         told: &mut Entries,
     ) -> Result<(), OutOfMemory>
-        ensures step { OnOk result ((s : State) → PartsStand [] self.old s → IsOver over s
-            → MayFollow over.number outcome s
-            → Does self.new
-            (tell (entry.Ended over.number outcome reading) ▸ follows over.number outcome) s
-            told.old told.new) }
+        ensures step { OnOk result
+            (TellsEnd self.old self.new over outcome reading told.old told.new) }
     {
         let number = over.number;
         told.push(Entry::Ended {
