@@ -18,18 +18,20 @@ use Rattle.std.specs.declared.cmp.Ordering.{Ordering}
 use Rattle.std.specs.declared.cmp.Reverse.{Reverse}
 use Rattle.slab.specs.Slab.{Slab}
 use Rattle.gb_bus.proofs.SlotDues.{any-due, due-keys, earliest-first, finds-same, least-due}
-use Rattle.gb_bus.proofs.SlotDues.{least-from, stands-due, stands-put}
+use Rattle.gb_bus.proofs.SlotDues.{least-from, none-early, put-last, stands-due, stands-put}
 use Rattle.gb_bus.proofs.SlotKept.{made-timed}
 use Rattle.gb_bus.proofs.SlotMaps.{both-same, found, key-same, latest, same-some}
 use Rattle.gb_bus.proofs.SlotTimes.{none-waits}
-use Rattle.gb_bus.specs.Keeping.{AreTimed, IsKept, Places, by_deadline, by_latest, deadline_of}
-use Rattle.gb_bus.specs.Keeping.{has_deadline, kept_in, time_of}
+use Rattle.gb_bus.specs.Keeping.{AreTimed, IsKept, Places, by_deadline, by_latest, came_early}
+use Rattle.gb_bus.specs.Keeping.{deadline_of, has_deadline, kept_in, time_of}
 use Rattle.gb_bus.specs.Slots.{SlotsKept, is_due, slot_at}
 use Rattle.gb_bus.specs.declared.deadlines.Deadlines.{Deadlines}
 use Rattle.gb_bus.specs.declared.slots.Slot.{Slot}
 use Rattle.gb_bus.specs.declared.tally.Tally.{Tally}
-use Rattle.gb_bus.specs.Listing.{AreThose, FindsLeast, stands_in}
-use Rattle.gb_ops.proofs.Listing.{equal-key, rising}
+use Rattle.gb_bus.specs.Listing.{AreThose, FindsLeast, Rises, stands_in}
+use Rattle.gb_invariants.proofs.Lists.{each-append, each-weaker, two-pushed}
+use Rattle.gb_machine.specs.Members.{Each}
+use Rattle.gb_ops.proofs.Listing.{equal-key}
 
 -- ---- whose deadlines they are
 
@@ -141,6 +143,16 @@ comes now (Some c) = leb c now
 pub record Walked (times : ℕ → Option ℕ) (d : Deadlines) (now i : ℕ) (ns : List ℕ) : Type 0 where
   pub below : (n : ℕ) → n < i → stands_in n ns ≡ comes now (times n)
   pub above : (n : ℕ) → i ≤ n → stands_in n ns ≡ any-due now n (earliest-first d.early.keys)
+
+-- the same, where those that are found are in order and below the number
+pub record InOrder (times : ℕ → Option ℕ) (d : Deadlines) (now i : ℕ) (ns : List ℕ) : Type 0 where
+  pub walked : Walked times d now i ns
+  pub low : Each (λ n. n < i) ns
+  pub rises : Rises ns
+
+stays-below : (i : ℕ) (ns : List ℕ) → Each (λ n. n < i) ns → Each (λ n. n < i + 1) ns
+stays-below i ns low =
+    each-weaker (λ n. n < i) (λ n. n < i + 1) ns (λ n under. omega (arith, under)) low
 
 module _ (times : ℕ → Option ℕ) (d : Deadlines) (t : Tally) (now : ℕ) (k : AreTimed times d t) where
   abbrev ks : List (ℕ × ℕ)
@@ -257,6 +269,35 @@ module _ (times : ℕ → Option ℕ) (d : Deadlines) (t : Tally) (now : ℕ) (k
       by (inr up) =
           let no = ap (comes now) (none n up) in w.above n up ∙ not-early n no ∙ sym no
 
+  -- ---- the walk where no early one came
+
+  pub order-begins : came_early now d.early.keys ≡ false → InOrder times d now d.first []
+  order-begins none = record {
+    walked = record {
+      below = λ n low. sym (ap (comes now) (before-first n low));
+      above = λ n up. sym (none-early now n d.early.keys none);
+    };
+    low = tt;
+    rises = tt;
+  }
+
+  pub order-passes : (i : ℕ) (ns : List ℕ) → times i ≡ None → InOrder times d now i ns
+      → InOrder times d now (i + 1) ns
+  order-passes i ns none w = record {
+    walked = walk-passes i ns none w.walked;
+    low = stays-below i ns w.low;
+    rises = w.rises;
+  }
+
+  pub order-finds : (i c : ℕ) (ns : List ℕ) → times i ≡ Some c → c ≤ now
+      → InOrder times d now i ns → InOrder times d now (i + 1) (ns ++ i ∷ [])
+  order-finds i c ns at came w = record {
+    walked = subst (Walked times d now (i + 1)) (put-last i ns w.low)
+        (walk-finds i c ns at came w.walked);
+    low = each-append (λ n. n < i + 1) ns (i ∷ []) (stays-below i ns w.low) (omega arith, tt);
+    rises = two-pushed (λ n m. n < m) ns i w.rises w.low;
+  }
+
   -- ---- the least
 
   pub first-late : (c : ℕ) (r : Option ℕ) → IsStrictlySortedBy by_latest d.early.keys
@@ -299,11 +340,10 @@ module _ (s : Slab Slot) (p : Places) (d : Deadlines) (t : Tally) (now : ℕ)
   due-so : (n : ℕ) → comes now (time_of s p n) ≡ is_due now (slot_at x n)
   due-so n = sym (due-comes now (found s p n)) ∙ ap (λ y. is_due now (slot_at y n)) view
 
-  pub due-are : (ns : List ℕ) → IsStrictlySortedBy nat_cmp ns
+  pub due-are : (ns : List ℕ) → Rises ns
       → ((n : ℕ) → stands_in n ns ≡ comes now (time_of s p n))
       → AreThose (λ n. is_due now (slot_at x n)) ns
-  due-are ns rises stands =
-      record { rises = rising ns rises; each = λ n. stands n ∙ due-so n }
+  due-are ns rises stands = record { rises = rises; each = λ n. stands n ∙ due-so n }
 
   pub first-is : (r : Option ℕ) → FindsLeast (λ n. comes now (time_of s p n)) r
       → FindsLeast (λ n. is_due now (slot_at x n)) r
@@ -323,7 +363,6 @@ module _ (s : Slab Slot) (p : Places) (d : Deadlines) (t : Tally) (now : ℕ)
           let low = made-timed s p d t k n c e in absurd (omega (arith, low, up))
 
   pub none-due : t.left_open ≡ 0 → AreThose (λ n. is_due now (slot_at x n)) []
-  unfolding IsStrictlySortedBy
   none-due none = due-are [] tt (λ n. sym (ap (comes now) (none-open none n)))
 
   pub none-first : time_of s p d.first ≡ None → FindsLeast (λ n. is_due now (slot_at x n)) None
@@ -336,3 +375,12 @@ module _ (s : Slab Slot) (p : Places) (d : Deadlines) (t : Tally) (now : ℕ)
   walk-over i ns past w =
       walk-ends (time_of s p) d t now k.timed i ns
       (λ n up. none-past n (omega (arith, past, up))) w
+
+  pub order-over : (i : ℕ) (ns : List ℕ) → t.requests < i → InOrder (time_of s p) d now i ns
+      → AreThose (λ n. is_due now (slot_at x n)) ns
+  order-over i ns past w = due-are ns w.rises (walk-over i ns past w.walked)
+
+  pub order-stops : (i c : ℕ) (ns : List ℕ) → time_of s p i ≡ Some c → now < c
+      → InOrder (time_of s p) d now i ns → AreThose (λ n. is_due now (slot_at x n)) ns
+  order-stops i c ns at late w =
+      due-are ns w.rises (walk-stops (time_of s p) d t now k.timed i c ns at late w.walked)

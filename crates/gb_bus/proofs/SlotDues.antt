@@ -5,15 +5,20 @@ use Rattle.std.proofs.Common.{Greater, eqb, leb, refl, sym, ap, ◌∙◌, arith
 use Rattle.std.proofs.lemmas.Bool.{and_left, both_ways, cases_lt, eq-eqb, eqb-true, le-leb}
 use Rattle.std.proofs.lemmas.Bool.{leb-false, leb-true, lt-leb, ne_eqb, or_cases, or_from, or_left}
 use Rattle.std.proofs.lemmas.Bool.{or_parts, or_right}
+use Rattle.std.proofs.lemmas.Bool.Decides.{nat_tests}
+use Rattle.std.proofs.lemmas.List.Elements.{All-weaker}
+use Rattle.std.proofs.lemmas.List.Folds.{list_any-append, list_any_at, list_any_none}
 use Rattle.std.proofs.lemmas.Map.Keys.{le_from_not_gt, sorted_head, sorted_tail}
+use Rattle.std.proofs.lemmas.Option.{get_or_from_slice_get, slice_get_within}
 use Rattle.std.specs.BTreeSet.{insert_key}
-use Rattle.std.specs.List.{AllByRecursion, list_any}
+use Rattle.std.specs.List.{All, AllByRecursion, list_any, slice_get}
 use Rattle.std.specs.List.Sorted.{IsStrictlySortedBy}
-use Rattle.std.specs.Ordering.{is_gt, match_ordering, nat_cmp, ordering_then}
+use Rattle.std.specs.Ordering.{is_gt, is_lt, match_ordering, nat_cmp, ordering_then}
 use Rattle.std.specs.declared.cmp.Ordering.{Ordering}
 use Rattle.std.specs.declared.cmp.Reverse.{Reverse}
-use Rattle.gb_bus.specs.Keeping.{by_deadline, lesser_of}
+use Rattle.gb_bus.specs.Keeping.{by_deadline, by_latest, came_early, lesser_of}
 use Rattle.gb_bus.specs.Listing.{FindsLeast, stands_in}
+use Rattle.gb_machine.specs.Members.{Each}
 use Rattle.gb_ops.proofs.Listing.{same-key}
 
 -- the earliest first, of those that stand the latest first
@@ -108,6 +113,48 @@ none-past now n k (y ∷ ks) late all =
     or_from (leb y.0 now && eqb y.1 n) (any-due now n ks)
     (and_left (leb y.0 now) (eqb y.1 n) (lt-leb y.0 now past)) (none-past now n k ks late all.1)
 
+-- ---- whether an early one came
+
+not-less : (a b : Ordering) → is_lt (ordering_then a b) ≡ false → is_lt a ≡ false
+not-less Less b e = e
+not-less Equal b e = refl
+not-less Greater b e = refl
+
+up-to : (a b : ℕ) → is_lt (nat_cmp a b) ≡ false → b ≤ a
+up-to a b e = grind (arith, nat_tests)
+
+-- the last tells it, since no other is before it
+pub last-tells : (now i : ℕ) (r : Reverse (ℕ × ℕ)) (rs : List (Reverse (ℕ × ℕ)))
+    → slice_get rs i ≡ Some r → All (λ q. is_lt (by_latest r q) ≡ false) rs
+    → leb r.0.0 now ≡ came_early now rs
+last-tells now i r rs at last = by (leb r.0.0 now) refl
+  where
+    by : (t : Bool) → leb r.0.0 now ≡ t → t ≡ came_early now rs
+    by true came =
+        sym (list_any_at (λ q. leb q.0.0 now) rs i r (slice_get_within rs i r at)
+        (ap (λ q. leb q.0.0 now) (get_or_from_slice_get rs i r r at) ∙ came))
+    by false late =
+        let low = leb-false r.0.0 now late in
+        sym (list_any_none (λ q. leb q.0.0 now) rs
+        (All-weaker (λ q. is_lt (by_latest r q) ≡ false) (λ q. leb q.0.0 now ≡ false)
+        (λ q e.
+        let up = up-to q.0.0 r.0.0
+        (not-less (nat_cmp q.0.0 r.0.0) (nat_cmp q.0.1 r.0.1) e) in
+        lt-leb q.0.0 now (omega (arith, up, low)))
+        rs last))
+
+-- none came where no early one did
+pub none-early : (now n : ℕ) (rs : List (Reverse (ℕ × ℕ))) → came_early now rs ≡ false
+    → any-due now n (earliest-first rs) ≡ false
+none-early now n [] e = refl
+none-early now n (r ∷ rs) e =
+    let parts = or_parts (leb r.0.0 now) (came_early now rs) e in
+    list_any-append (λ k. leb k.0 now && eqb k.1 n) (earliest-first rs) (r.0 ∷ [])
+    ∙ or_from (any-due now n (earliest-first rs)) (any-due now n (r.0 ∷ []))
+    (none-early now n rs parts.1)
+    (or_from (leb r.0.0 now && eqb r.0.1 n) false
+    (and_left (leb r.0.0 now) (eqb r.0.1 n) parts.0) refl)
+
 -- ---- the numbers that are put among others
 
 pub stands-put : (n m : ℕ) (ns : List ℕ) → stands_in n (insert_key nat_cmp ns m)
@@ -135,6 +182,18 @@ stands-put n m (x ∷ ns) = by (nat_cmp m x) refl (stands-put n m ns)
         ∙ ap (λ k. eqb k n || (eqb x n || stands_in n ns)) (sym (same-key m x e))
     by Greater e later =
         ap (λ b. eqb x n || b) later ∙ swap (eqb x n) (eqb m n) (stands_in n ns)
+
+-- one that is above all comes last
+pub put-last : (i : ℕ) (ns : List ℕ) → Each (λ n. n < i) ns
+    → insert_key nat_cmp ns i ≡ ns ++ i ∷ []
+put-last i [] low = refl
+put-last i (x ∷ ns) low =
+    ap (λ o. match_ordering o (i ∷ x ∷ ns) (x ∷ ns) (x ∷ insert_key nat_cmp ns i))
+    (greater i x low.0)
+    ∙ ap (λ l. x ∷ l) (put-last i ns low.1)
+  where
+    greater : (i x : ℕ) → x < i → nat_cmp i x ≡ Greater
+    greater i x up = grind (arith, nat_tests)
 
 pub stands-due : (now n : ℕ) (ns : List ℕ) (ks : List (ℕ × ℕ)) → IsStrictlySortedBy by_deadline ks
     → stands_in n (due-keys now ns ks) ≡ (stands_in n ns || any-due now n ks)

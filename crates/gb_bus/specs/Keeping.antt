@@ -4,6 +4,7 @@ use Rattle.std.specs.Prelude.{if◌then◌else◌, is_none, is_some, Option, Som
 use Rattle.std.specs.Option.{option_and_then}
 use Rattle.std.specs.BTreeMap.{is_at}
 use Rattle.std.specs.BTreeSet.{BTreeSet, contains, insert_key}
+use Rattle.std.specs.List.{list_any}
 use Rattle.std.specs.Ordering.{nat_cmp, ordering_then}
 use Rattle.std.specs.declared.cmp.Ordering.{Ordering}
 use Rattle.std.specs.declared.cmp.Reverse.{Reverse}
@@ -31,6 +32,10 @@ Early = BTreeSet (Reverse (ℕ × ℕ))
 -- a deadline stands there with a number
 abbrev pub has_deadline : Early → ℕ × ℕ → Bool
 has_deadline deadlines x = contains by_latest deadlines (record { 0 = x })
+
+-- an early deadline came
+abbrev pub came_early : ℕ → List (Reverse (ℕ × ℕ)) → Bool
+came_early now rs = list_any (λ r. nat_le r.0.0 now) rs
 
 -- keys by number
 abbrev pub Places : Type 0

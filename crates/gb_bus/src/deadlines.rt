@@ -1,7 +1,7 @@
 //! By when open requests time out.
 
 ghost use Rattle.std.specs.Prelude.{◌≡◌, [], OnErr, OnOk, true};
-ghost use Rattle.gb_bus.specs.Keeping.{Adds, Removes, Retimed, Stays};
+ghost use Rattle.gb_bus.specs.Keeping.{Adds, Removes, Retimed, Stays, came_early};
 
 use gb_base::OutOfMemory;
 use std::alloc::Global;
@@ -71,5 +71,16 @@ impl Deadlines {
         if !self.early.is_empty() {
             self.early.remove(&Reverse((deadline, number)));
         }
+    }
+
+    /// One that times out before others is due.
+    #[inline]
+    pub fn came_early(&self, now: u64) -> bool
+        ensures { result ≡ came_early now self.now.early.keys }
+    {
+        let Some(Reverse((deadline, _))) = self.early.last() else {
+            return false;
+        };
+        *deadline <= now
     }
 }

@@ -16,7 +16,8 @@ ghost use Rattle.std.specs.Prelude.{
   option_copied,
 };
 ghost use Rattle.gb_bus.specs.Counting.{no_requests};
-ghost use Rattle.gb_bus.specs.Keeping.{IsNext, is_let_go, lesser_of, time_of};
+ghost use Rattle.gb_bus.specs.Keeping.{IsKept, IsNext, came_early, is_let_go, kept_in, lesser_of};
+ghost use Rattle.gb_bus.specs.Keeping.{time_of};
 ghost use Rattle.gb_bus.specs.Slots.{
   Closes,
   MakesAs,
@@ -349,6 +350,24 @@ impl Slots {
         if self.tally.left_open == 0 {
             return Ok(Numbers::new(alloc));
         }
+        if self.deadlines.came_early(now) {
+            return self.due_early(alloc, now);
+        }
+        due_in_order(
+            alloc,
+            &self.slots,
+            &self.places,
+            &self.deadlines,
+            &self.tally,
+            now,
+        )
+    }
+
+    /// The same, where some may time out before one with a lower number.
+    #[inline(never)]
+    fn due_early(&self, alloc: Global, now: u64) -> Result<Numbers, OutOfMemory>
+        ensures { IfOk result (λ ns. AreThose (λ n. is_due now (slot_at self.now n)) ns) }
+    {
         let mut found = BTreeSet::new(alloc);
         for Reverse((deadline, number)) in self.deadlines.early.iter().rev() {
             if *deadline > now {
@@ -433,6 +452,36 @@ fn next_first(
         }
     }
     tally.requests
+}
+
+/// The open requests whose deadline came, in order of number, where none of these times out before
+/// one with a lower number.
+#[inline(never)]
+fn due_in_order(
+    alloc: Global,
+    slots: &Slab<Slot>,
+    places: &Table<usize>,
+    deadlines: &Deadlines,
+    tally: &Tally,
+    now: u64,
+) -> Result<Numbers, OutOfMemory>
+    requires kept { IsKept slots.now places.now deadlines.now tally.now }
+    requires none_early { came_early now deadlines.now.early.keys ≡ false }
+    ensures { IfOk result
+        (λ ns. AreThose
+        (λ n. is_due now (slot_at (kept_in slots.now places.now tally.now) n)) ns) }
+{
+    let mut due = Numbers::new(alloc);
+    for n in deadlines.first..=tally.requests {
+        let Some(time) = deadline_at(slots, places, n) else {
+            continue;
+        };
+        if time > now {
+            break;
+        }
+        due.push(n)?;
+    }
+    Ok(due)
 }
 
 /// The deadline of request n, None where n isn't open.

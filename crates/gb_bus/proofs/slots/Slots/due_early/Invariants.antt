@@ -2,7 +2,7 @@
 use Rattle.std.proofs.Common.{◌≡◌, []}
 use Rattle.gb_bus.proofs.SlotDeadlines.{Walked}
 use Rattle.gb_bus.proofs.SlotDues.{due-keys, earliest-first}
-use Rattle.gb_bus.proofs.slots.Slots.due.Given as goal
+use Rattle.gb_bus.proofs.slots.Slots.due_early.Given as goal
 use Rattle.gb_bus.specs.Keeping.{time_of}
 
 abbrev pub invariant-loop-deadline : goal.invariant-loop-deadline
