@@ -1,25 +1,25 @@
--- The first end at which something waits is the first that has a queue with items.
+-- The first end at which something waits is the least that is marked.
 use Rattle.std.proofs.Common.{◌≡◌, ℕ, Bool, true, false, cond, nat_lt, ◌&&◌, ◌||◌, eqb, ◌⊎◌, inl}
 use Rattle.std.proofs.Common.{inr, ⊎_elim, Option, Some, None, List, [], ◌∷◌, refl, sym, ap, ◌∙◌}
-use Rattle.std.proofs.Common.{subst, arith, rules}
+use Rattle.std.proofs.Common.{subst, arith, rules, IsSome}
 use Rattle.std.proofs.lemmas.Bool.{true≢false}
 use Rattle.std.proofs.lemmas.Bool.Decides.{nat_tests}
 use Rattle.std.specs.Map.{lookup}
 use Rattle.std.specs.Prelude.{nat_eq}
 use Rattle.gb_base.specs.declared.end.End.{End}
 use Rattle.gb_base.specs.declared.end.End.TheVariants as end
-use Rattle.gb_bus.proofs.Entries.{same-some, some-none}
-use Rattle.gb_bus.proofs.Keeping.{Queues}
+use Rattle.gb_bus.proofs.Entries.{EachEntry, each-entry, same-some, some-none}
 use Rattle.gb_bus.specs.Connection.{Connection}
 use Rattle.gb_bus.specs.Ends.{earlier}
-use Rattle.gb_bus.specs.Index.{Ends, IsEndOf, MapsAgree, Live}
+use Rattle.gb_bus.specs.Index.{Ends, IsEndOf, IsMarked, MapsAgree, Live, number_at}
 use Rattle.gb_bus.specs.Parts.{earliest_in, earliest_of, is_none_left}
-use Rattle.gb_bus.specs.Seen.{all_seen, items_of, seen}
+use Rattle.gb_bus.specs.Seen.{all_seen, seen}
 use Rattle.gb_bus.specs.declared.connection.Connection as code
 use Rattle.gb_bus.specs.declared.queue.Item.{Item}
 use Rattle.gb_machine.specs.Waiting.{end_before}
-use Rattle.gb_switch.specs.Lines.{has_items}
-use Rattle.gb_switch.specs.Queues.{FindsFirst, IsFirst, items_at}
+use Rattle.gb_switch.proofs.Places.{settled-before}
+use Rattle.gb_switch.specs.Queues.{has_items}
+use Rattle.gb_switch.specs.WaitingEnds.{IsLeast, is_in}
 
 -- ---- the order of ends
 
@@ -179,96 +179,98 @@ best-in : (cs : List Connection) → IsBest (WaitsIn cs) (earliest_in cs)
 best-in [] = λ a w. w
 best-in (c ∷ cs) = best-on c (WaitsIn cs) (earliest_in cs) (best-in cs)
 
--- ---- what waits in queues
+-- ---- what is marked
 
-left-has : (o : Option (List Item)) → is_none_left (items_of o) ≡ false → has_items o ≡ true
-left-has None e = absurd (true≢false e)
-left-has (Some []) e = absurd (true≢false e)
-left-has (Some (i ∷ is)) e = refl
+left-has : (items : List Item) → is_none_left items ≡ false → has_items items ≡ true
+left-has [] e = absurd (true≢false e)
+left-has (i ∷ is) e = refl
 
-has-left : (o : Option (List Item)) → has_items o ≡ true → is_none_left (items_of o) ≡ false
-has-left None e = absurd (true≢false (sym e))
-has-left (Some []) e = absurd (true≢false (sym e))
-has-left (Some (i ∷ is)) e = refl
+has-left : (items : List Item) → has_items items ≡ true → is_none_left items ≡ false
+has-left [] e = absurd (true≢false (sym e))
+has-left (i ∷ is) e = refl
 
--- what waits on a connection waits in a queue
-on-has : (q : Queues) (k : ℕ) (x : code.Connection) (a : End) → WaitsOn (seen q k x) a
-    → has_items (items_at q a) ≡ true
-on-has q k x a w =
+-- an end is marked where something waits on its connection
+on-in : (q : List End) (k : ℕ) (x : code.Connection) (a : End) → IsMarked q x
+    → WaitsOn (seen k x) a → is_in q a ≡ true
+on-in q k x a m w =
     ⊎_elim
-    (λ p. ap (λ b. has_items (items_at q b)) p.1
-    ∙ left-has (items_at q (end.Ap x.ap))
-    (sym (ap (λ t. is_none_left (cond t (items_of (items_at q (end.Ap x.ap))) [])) w.0) ∙ p.0))
-    (λ p. ap (λ b. has_items (items_at q b)) p.1
-    ∙ left-has (items_at q x.peer)
-    (sym (ap (λ t. is_none_left (cond t (items_of (items_at q x.peer)) [])) w.0) ∙ p.0))
+    (λ p. ap (is_in q) p.1 ∙ m.near ∙ left-has x.to_ap p.0)
+    (λ p. ap (is_in q) p.1 ∙ m.far ∙ left-has x.to_far p.0)
     w.1
 
-pub in-has : (q : Queues) (es : List (ℕ × code.Connection)) (a : End) → WaitsIn (all_seen q es) a
-    → has_items (items_at q a) ≡ true
-in-has q [] a w = absurd w
-in-has q (e ∷ es) a w = ⊎_elim (λ v. on-has q e.0 e.1 a v) (λ v. in-has q es a v) w
+marked-in : (q : List End) (es : List (ℕ × code.Connection)) (a : End)
+    → EachEntry (λ k x. IsMarked q x) es → WaitsIn (all_seen es) a → is_in q a ≡ true
+marked-in q [] a each w = absurd w
+marked-in q (e ∷ es) a each w =
+    ⊎_elim (λ v. on-in q e.0 e.1 a each.0 v) (λ v. marked-in q es a each.1 v) w
 
--- what waits in a queue waits on its connection
-has-on : (q : Queues) (k : ℕ) (x : code.Connection) (a : End) → x.wired ≡ true → IsEndOf a x
-    → has_items (items_at q a) ≡ true → WaitsOn (seen q k x) a
-has-on q k x a wired own has = (
-  wired,
-  ⊎_elim
-      (λ e. inl (
-        ap (λ t. is_none_left (cond t (items_of (items_at q (end.Ap x.ap))) [])) wired
-            ∙ has-left (items_at q (end.Ap x.ap)) (ap (λ b. has_items (items_at q b)) (sym e)
-            ∙ has),
-        e,
-      ))
-      (λ e. inr (
-        ap (λ t. is_none_left (cond t (items_of (items_at q x.peer)) [])) wired
-            ∙ has-left (items_at q x.peer) (ap (λ b. has_items (items_at q b)) (sym e) ∙ has),
-        e,
-      ))
-      own,
-)
+pub in-marked : (live : Live) (ends : Ends) (q : List End) (a : End) → MapsAgree live ends q
+    → WaitsIn (all_seen live.entries) a → is_in q a ≡ true
+in-marked live ends q a k w =
+    marked-in q live.entries a
+    (each-entry (λ n x. IsMarked q x) live.entries k.unique k.marked) w
 
-among : (q : Queues) (es : List (ℕ × code.Connection)) (n : ℕ) (x : code.Connection) (a : End)
-    → lookup (nat_eq n) es ≡ Some x → ((k : ℕ) → WaitsOn (seen q k x) a) → WaitsIn (all_seen q es) a
-among q [] n x a l w = absurd (some-none x (sym l))
-among q (e ∷ es) n x a l w = by (nat_eq n e.0) l (among q es n x a)
+-- something waits on the connection of an end that is marked
+in-on : (q : List End) (k : ℕ) (x : code.Connection) (a : End) → IsMarked q x → IsEndOf a x
+    → is_in q a ≡ true → WaitsOn (seen k x) a
+in-on q k x a m own has = by x.wired refl
+  where
+    near : a ≡ end.Ap x.ap → has_items x.to_ap ≡ true
+    near e = sym m.near ∙ ap (is_in q) (sym e) ∙ has
+
+    far : a ≡ x.peer → has_items x.to_far ≡ true
+    far e = sym m.far ∙ ap (is_in q) (sym e) ∙ has
+
+    by : (w : Bool) → x.wired ≡ w → WaitsOn (seen k x) a
+    by true wired = (
+      wired,
+      ⊎_elim (λ e. inl (has-left x.to_ap (near e), e)) (λ e. inr (has-left x.to_far (far e), e))
+          own,
+    )
+    by false loose =
+        let i = m.idle loose in
+        absurd (⊎_elim (λ e. true≢false (sym (near e) ∙ ap has_items i.0))
+        (λ e. true≢false (sym (far e) ∙ ap has_items i.1)) own)
+
+among : (es : List (ℕ × code.Connection)) (n : ℕ) (x : code.Connection) (a : End)
+    → lookup (nat_eq n) es ≡ Some x → ((k : ℕ) → WaitsOn (seen k x) a) → WaitsIn (all_seen es) a
+among [] n x a l w = absurd (some-none x (sym l))
+among (e ∷ es) n x a l w = by (nat_eq n e.0) l (among es n x a)
   where
     by : (b : Bool) → cond b (Some e.1) (lookup (nat_eq n) es) ≡ Some x
-        → (lookup (nat_eq n) es ≡ Some x → ((k : ℕ) → WaitsOn (seen q k x) a)
-        → WaitsIn (all_seen q es) a)
-        → WaitsIn (all_seen q (e ∷ es)) a
-    by true m later = inl (subst (λ c. WaitsOn (seen q e.0 c) a) (sym (same-some e.1 x m)) (w e.0))
+        → (lookup (nat_eq n) es ≡ Some x → ((k : ℕ) → WaitsOn (seen k x) a)
+        → WaitsIn (all_seen es) a)
+        → WaitsIn (all_seen (e ∷ es)) a
+    by true m later = inl (subst (λ c. WaitsOn (seen e.0 c) a) (sym (same-some e.1 x m)) (w e.0))
     by false m later = inr (later m w)
 
-pub has-in : (live : Live) (ends : Ends) (q : Queues) (a : End) → MapsAgree live ends q
-    → has_items (items_at q a) ≡ true → WaitsIn (all_seen q live.entries) a
-has-in live ends q a k has = by (items_at q a) refl
+pub has-in : (live : Live) (ends : Ends) (q : List End) (a : End) → MapsAgree live ends q
+    → is_in q a ≡ true → WaitsIn (all_seen live.entries) a
+has-in live ends q a k has = by (number_at ends a) refl (k.owned a has)
   where
-    by : (o : Option (List Item)) → items_at q a ≡ o → WaitsIn (all_seen q live.entries) a
-    by None e = absurd (true≢false (sym has ∙ ap has_items e))
-    by (Some items) e =
-        let o = k.owned a items e in
-        among q live.entries o.number o.connection a o.there
-        (λ n. has-on q n o.connection a o.wired o.own has)
+    by : (o : Option ℕ) → number_at ends a ≡ o → IsSome o → WaitsIn (all_seen live.entries) a
+    by None e some = absurd (cc some)
+    by (Some n) e some =
+        let h = k.numbered a n e in
+        among live.entries n h.connection a h.there
+        (λ j. in-on q j h.connection a (k.marked n h.connection h.there) h.own has)
 
--- the first of the queues where something waits
-pub earliest-is : (live : Live) (ends : Ends) (q : Queues) (r : Option End) → MapsAgree live ends q
-    → FindsFirst (items_at q) r → r ≡ earliest_in (all_seen q live.entries)
+-- the first of the ends where something waits
+pub earliest-is : (live : Live) (ends : Ends) (q : List End) (r : Option End)
+    → MapsAgree live ends q → IsLeast q r → r ≡ earliest_in (all_seen live.entries)
 earliest-is live ends q r k h =
-    by r (earliest_in (all_seen q live.entries)) h (best-in (all_seen q live.entries))
+    by r (earliest_in (all_seen live.entries)) h (best-in (all_seen live.entries))
   where
-    by : (s t : Option End) → FindsFirst (items_at q) s
-        → IsBest (WaitsIn (all_seen q live.entries)) t → s ≡ t
+    by : (s t : Option End) → IsLeast q s → IsBest (WaitsIn (all_seen live.entries)) t → s ≡ t
     by None None f b = refl
-    by None (Some e) f b =
-        absurd (true≢false (sym (in-has q live.entries e b.0) ∙ f e))
-    by (Some e) None f b = absurd (b e (has-in live ends q e k f.waits))
+    by None (Some e) f b = absurd (true≢false (sym (in-marked live ends q e k b.0) ∙ f e))
+    by (Some e) None f b = absurd (b e (has-in live ends q e k f.0))
     by (Some e) (Some d) f b =
-        ap Some (one-end e d (b.1 e (has-in live ends q e k f.waits))
-        (later e d f (in-has q live.entries d b.0) (end_before d e) refl))
+        ap Some (one-end e d (b.1 e (has-in live ends q e k f.0))
+        (later e d f (in-marked live ends q d k b.0) (end_before d e) refl))
       where
-        later : (e d : End) → IsFirst (items_at q) e → has_items (items_at q d) ≡ true → (t : Bool)
+        later : (e d : End) → IsLeast q (Some e) → is_in q d ≡ true → (t : Bool)
             → end_before d e ≡ t → end_before d e ≡ false
         later e d f w false is = is
-        later e d f w true is = absurd (true≢false (sym w ∙ f.before d is))
+        later e d f w true is =
+            absurd (true≢false (sym (settled-before d e is) ∙ f.1 d w))

@@ -1,5 +1,5 @@
 -- Whether a number or an end is that of a live connection.
-use Rattle.std.proofs.Common.{◌≡◌, ◌≢◌, ℕ, ◌+◌, Bool, true, false, ◌||◌, ◌&&◌, eqb, ◌⊎◌, inl, inr}
+use Rattle.std.proofs.Common.{◌≡◌, ◌≢◌, ℕ, ◌+◌, Bool, true, false, ◌||◌, eqb, ◌⊎◌, inl, inr}
 use Rattle.std.proofs.Common.{Option, Some, None, is_some, List, [], ◌∷◌, map, cond}
 use Rattle.std.proofs.Common.{refl, sym, ap, ◌∙◌, arith}
 use Rattle.std.proofs.lemmas.Bool.{cases_eq, eq-eqb, ne_eqb, true≢false}
@@ -11,9 +11,8 @@ use Rattle.gb_base.specs.declared.end.End.{End}
 use Rattle.gb_base.specs.declared.end.End.TheVariants as end
 use Rattle.gb_bus.proofs.Entries.{EachEntry, each-entry, other-number, same-number, same-some}
 use Rattle.gb_bus.proofs.Entries.{some-none}
-use Rattle.gb_bus.proofs.Keeping.{Queues}
 use Rattle.gb_bus.proofs.KeepingLive.{none-there}
-use Rattle.gb_bus.proofs.Placing.{end-differs}
+use Rattle.gb_bus.proofs.Placing.{end-differs, end-own}
 use Rattle.gb_bus.specs.Connection.{Connection}
 use Rattle.gb_bus.specs.Ends.{is_far}
 use Rattle.gb_bus.specs.Index.{Ends, IsEndOf, MapsAgree, Live, number_at}
@@ -52,66 +51,61 @@ none-of false false c e = record { first = refl; second = refl; third = e }
 
 -- ---- one connection
 
-end-own : (e : End) → same_end e e ≡ true
-end-own end.Svc = refl
-end-own (end.Ap a) = eq-eqb a a refl
-end-own (end.Module i c) = ap (λ b. b && eqb c c) (eq-eqb i i refl) ∙ eq-eqb c c refl
-
 -- the connection with the number has it
-its-number : (q : Queues) (n a : ℕ) (peer : End) (x : code.Connection)
-    → has_one_of n a peer (seen q n x) ≡ true
-its-number q n a peer x =
+its-number : (n a : ℕ) (peer : End) (x : code.Connection)
+    → has_one_of n a peer (seen n x) ≡ true
+its-number n a peer x =
     ap (λ b. b || (eqb x.ap a || same_end x.peer peer)) (eq-eqb n n refl)
 
 -- the one that has the CPort of the application processor
-its-near : (q : Queues) (n j a : ℕ) (peer : End) (x : code.Connection) → is_far x.peer ≡ true
-    → IsEndOf (end.Ap a) x → has_one_of n a peer (seen q j x) ≡ true
-its-near q n j a peer x far (inl e) =
+its-near : (n j a : ℕ) (peer : End) (x : code.Connection) → is_far x.peer ≡ true
+    → IsEndOf (end.Ap a) x → has_one_of n a peer (seen j x) ≡ true
+its-near n j a peer x far (inl e) =
     let same : x.ap ≡ a = cc in
     or-right (eqb j n) (eqb x.ap a || same_end x.peer peer)
     (ap (λ b. b || same_end x.peer peer) (eq-eqb x.ap a same))
-its-near q n j a peer x far (inr e) = absurd (true≢false (sym far ∙ sym (ap is_far e)))
+its-near n j a peer x far (inr e) = absurd (true≢false (sym far ∙ sym (ap is_far e)))
 
 -- the one that has the far end
-its-far : (q : Queues) (n j a : ℕ) (peer : End) (x : code.Connection) → is_far peer ≡ true
-    → IsEndOf peer x → has_one_of n a peer (seen q j x) ≡ true
-its-far q n j a peer x far (inl e) = absurd (true≢false (sym far ∙ ap is_far e))
-its-far q n j a peer x far (inr e) =
+its-far : (n j a : ℕ) (peer : End) (x : code.Connection) → is_far peer ≡ true
+    → IsEndOf peer x → has_one_of n a peer (seen j x) ≡ true
+its-far n j a peer x far (inl e) = absurd (true≢false (sym far ∙ ap is_far e))
+its-far n j a peer x far (inr e) =
     or-right (eqb j n) (eqb x.ap a || same_end x.peer peer)
     (or-right (eqb x.ap a) (same_end x.peer peer)
     (ap (λ p. same_end x.peer p) e ∙ end-own x.peer))
 
 -- ---- all
 
-any-there : (q : Queues) (test : Connection → Bool) (es : List (ℕ × code.Connection)) (n : ℕ)
-    (x : code.Connection) → lookup (nat_eq n) es ≡ Some x → test (seen q n x) ≡ true
-    → list_any test (all_seen q es) ≡ true
-any-there q test [] n x l t = absurd (some-none x (sym l))
-any-there q test (e ∷ es) n x l t = by (cases_eq n e.0) (any-there q test es n x)
+any-there : (test : Connection → Bool) (es : List (ℕ × code.Connection)) (n : ℕ)
+    (x : code.Connection) → lookup (nat_eq n) es ≡ Some x → test (seen n x) ≡ true
+    → list_any test (all_seen es) ≡ true
+any-there test [] n x l t = absurd (some-none x (sym l))
+any-there test (e ∷ es) n x l t = by (cases_eq n e.0) (any-there test es n x)
   where
     by : (n ≡ e.0) ⊎ (n ≢ e.0)
-        → (lookup (nat_eq n) es ≡ Some x → test (seen q n x) ≡ true
-        → list_any test (all_seen q es) ≡ true)
-        → test (seen q e.0 e.1) || list_any test (all_seen q es) ≡ true
+        → (lookup (nat_eq n) es ≡ Some x → test (seen n x) ≡ true
+        → list_any test (all_seen es) ≡ true)
+        → test (seen e.0 e.1) || list_any test (all_seen es) ≡ true
     by (inl same) later =
         let value : e.1 ≡ x = same-some e.1 x
         (sym (ap (λ b. cond b (Some e.1) (lookup (nat_eq n) es)) (same-number n e.0 same)) ∙ l) in
-        ap (λ b. b || list_any test (all_seen q es))
-        (ap (λ k. test (seen q k e.1)) (sym same) ∙ ap (λ v. test (seen q n v)) value ∙ t)
+        ap (λ b. b || list_any test (all_seen es))
+        (ap (λ k. test (seen k e.1)) (sym same) ∙ ap (λ v. test (seen n v)) value ∙ t)
     by (inr ne) later =
-        or-right (test (seen q e.0 e.1)) (list_any test (all_seen q es))
+        or-right (test (seen e.0 e.1)) (list_any test (all_seen es))
         (later (sym (ap (λ b. cond b (Some e.1) (lookup (nat_eq n) es)) (other-number n e.0 ne))
         ∙ l) t)
 
-any-none : (q : Queues) (test : Connection → Bool) (es : List (ℕ × code.Connection))
-    → EachEntry (λ k x. test (seen q k x) ≡ false) es → list_any test (all_seen q es) ≡ false
-any-none q test [] h = refl
-any-none q test (e ∷ es) h =
-    ap (λ b. b || list_any test (all_seen q es)) h.0 ∙ any-none q test es h.1
+any-none : (test : Connection → Bool) (es : List (ℕ × code.Connection))
+    → EachEntry (λ k x. test (seen k x) ≡ false) es → list_any test (all_seen es) ≡ false
+any-none test [] h = refl
+any-none test (e ∷ es) h =
+    ap (λ b. b || list_any test (all_seen es)) h.0 ∙ any-none test es h.1
 
 -- It is told by the maps whether the number or an end is taken.
-pub taken-by : (live : Live) (ends : Ends) (q : Queues) (xs : List Connection) (n a : ℕ)
-    (peer : End) → MapsAgree live ends q → all_seen q live.entries ≡ xs → is_far peer ≡ true
+pub taken-by : (live : Live) (ends : Ends) (q : List End) (xs : List Connection) (n a : ℕ)
+    (peer : End) → MapsAgree live ends q → all_seen live.entries ≡ xs → is_far peer ≡ true
     → is_some (get nat_eq live n)
     || (is_some (number_at ends (end.Ap a)) || is_some (number_at ends peer))
     ≡ is_taken n a peer xs
@@ -120,13 +114,13 @@ taken-by live ends q xs n a peer kept view far =
     ∙ ap (is_taken n a peer) view
   where
     one : (j : ℕ) (x : code.Connection) → get nat_eq live j ≡ Some x
-        → has_one_of n a peer (seen q j x) ≡ true
-        → true ≡ is_taken n a peer (all_seen q live.entries)
-    one j x there t = sym (any-there q (has_one_of n a peer) live.entries j x there t)
+        → has_one_of n a peer (seen j x) ≡ true
+        → true ≡ is_taken n a peer (all_seen live.entries)
+    one j x there t = sym (any-there (has_one_of n a peer) live.entries j x there t)
 
     not-its : (j : ℕ) (x : code.Connection) → get nat_eq live j ≡ Some x
         → get nat_eq live n ≡ None → number_at ends (end.Ap a) ≡ None
-        → number_at ends peer ≡ None → has_one_of n a peer (seen q j x) ≡ false
+        → number_at ends peer ≡ None → has_one_of n a peer (seen j x) ≡ false
     not-its j x there e f g =
         let i = kept.indexed j x there in
         or-three (eqb j n) (eqb x.ap a) (same_end x.peer peer)
@@ -137,22 +131,22 @@ taken-by live ends q xs n a peer kept view far =
     by : (o : Option code.Connection) → get nat_eq live n ≡ o
         → (p : Option ℕ) → number_at ends (end.Ap a) ≡ p
         → (r : Option ℕ) → number_at ends peer ≡ r
-        → is_some o || (is_some p || is_some r) ≡ is_taken n a peer (all_seen q live.entries)
-    by (Some x) e p f r g = one n x e (its-number q n a peer x)
+        → is_some o || (is_some p || is_some r) ≡ is_taken n a peer (all_seen live.entries)
+    by (Some x) e p f r g = one n x e (its-number n a peer x)
     by None e (Some j) f r g =
         let h = kept.numbered (end.Ap a) j f in
         one j h.connection h.there
-        (its-near q n j a peer h.connection (kept.indexed j h.connection h.there).beyond h.own)
+        (its-near n j a peer h.connection (kept.indexed j h.connection h.there).beyond h.own)
     by None e None f (Some j) g =
         let h = kept.numbered peer j g in
-        one j h.connection h.there (its-far q n j a peer h.connection far h.own)
+        one j h.connection h.there (its-far n j a peer h.connection far h.own)
     by None e None f None g =
-        sym (any-none q (has_one_of n a peer) live.entries
-        (each-entry (λ j x. has_one_of n a peer (seen q j x) ≡ false) live.entries kept.unique
+        sym (any-none (has_one_of n a peer) live.entries
+        (each-entry (λ j x. has_one_of n a peer (seen j x) ≡ false) live.entries kept.unique
         (λ j x there. not-its j x there e f g)))
 
-module _ (live : Live) (ends : Ends) (q : Queues) (xs : List Connection) (n a : ℕ) (peer : End)
-    (kept : MapsAgree live ends q) (view : all_seen q live.entries ≡ xs)
+module _ (live : Live) (ends : Ends) (q : List End) (xs : List Connection) (n a : ℕ) (peer : End)
+    (kept : MapsAgree live ends q) (view : all_seen live.entries ≡ xs)
     (far : is_far peer ≡ true) where
   -- the number is
   pub taken-first : is_some (get nat_eq live n) ≡ true → true ≡ is_taken n a peer xs
@@ -183,8 +177,8 @@ pub record AreFree (live : Live) (ends : Ends) (n a : ℕ) (peer : End) : Type 0
   pub near : number_at ends (end.Ap a) ≡ None
   pub far : number_at ends peer ≡ None
 
-pub are-free : (live : Live) (ends : Ends) (q : Queues) (xs : List Connection) (n a : ℕ)
-    (peer : End) → MapsAgree live ends q → all_seen q live.entries ≡ xs → is_far peer ≡ true
+pub are-free : (live : Live) (ends : Ends) (q : List End) (xs : List Connection) (n a : ℕ)
+    (peer : End) → MapsAgree live ends q → all_seen live.entries ≡ xs → is_far peer ≡ true
     → is_taken n a peer xs ≡ false → AreFree live ends n a peer
 are-free live ends q xs n a peer kept view far free =
     let none = none-of (is_some (get nat_eq live n)) (is_some (number_at ends (end.Ap a)))

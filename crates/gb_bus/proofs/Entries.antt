@@ -8,12 +8,10 @@ use Rattle.std.proofs.lemmas.Map.Keys.{IsDistinct-head, IsDistinct-tail}
 use Rattle.std.specs.List.{AllByRecursion, IsDistinct, find}
 use Rattle.std.specs.Map.{keys_of, lookup, remove_entry, set_value}
 use Rattle.std.specs.Prelude.{nat_eq}
-use Rattle.gb_base.specs.declared.end.End.{End}
 use Rattle.gb_bus.specs.Connection.{Connection}
 use Rattle.gb_bus.specs.Parts.{numbered}
 use Rattle.gb_bus.specs.Seen.{all_seen, seen}
 use Rattle.gb_bus.specs.declared.connection.Connection as code
-use Rattle.gb_bus.specs.declared.queue.Item.{Item}
 pub use Rattle.gb_invariants.proofs.Awaiting.{same-some}
 use Rattle.gb_machine.specs.Lists.{at_first, without}
 
@@ -193,128 +191,133 @@ set-others n k (e ∷ es) y ne = by (cases_eq n e.0) (set-others n k es y ne)
         (other-number n e.0 other)
         ∙ ap (λ o. cond (nat_eq k e.0) (Some e.1) o) later
 
+-- a value is set again
+pub set-again : {X : Type 0} (n : ℕ) (es : List (ℕ × X)) (x y : X) (fs gs : List (ℕ × X))
+    → fs ≡ set_value (nat_eq n) es x → gs ≡ set_value (nat_eq n) es y
+    → gs ≡ set_value (nat_eq n) fs y
+set-again {X} n es x y fs gs one other =
+    other ∙ sym (twice es) ∙ ap (λ l. set_value (nat_eq n) l y) (sym one)
+  where
+    twice : (es : List (ℕ × X)) → set_value (nat_eq n) (set_value (nat_eq n) es x) y
+        ≡ set_value (nat_eq n) es y
+    twice [] = refl
+    twice (e ∷ es) = by (nat_eq n e.0) refl (twice es)
+      where
+        by : (b : Bool) → nat_eq n e.0 ≡ b
+            → set_value (nat_eq n) (set_value (nat_eq n) es x) y ≡ set_value (nat_eq n) es y
+            → set_value (nat_eq n) (cond b ((e.0, x) ∷ es) (e ∷ set_value (nat_eq n) es x)) y
+            ≡ cond b ((e.0, y) ∷ es) (e ∷ set_value (nat_eq n) es y)
+        by true t later =
+            ap (λ b. cond b ((e.0, y) ∷ es) ((e.0, x) ∷ set_value (nat_eq n) es y)) t
+        by false t later =
+            ap (λ b. cond b ((e.0, y) ∷ set_value (nat_eq n) es x)
+            (e ∷ set_value (nat_eq n) (set_value (nat_eq n) es x) y)) t
+            ∙ ap (λ l. e ∷ l) later
+
 -- ---- what is seen
 
-pub seen-append : (q : List (End × List Item)) (xs ys : List (ℕ × code.Connection))
-    → all_seen q (xs ++ ys) ≡ all_seen q xs ++ all_seen q ys
-seen-append q [] ys = refl
-seen-append q (e ∷ xs) ys = ap (λ cs. seen q e.0 e.1 ∷ cs) (seen-append q xs ys)
+pub seen-append : (xs ys : List (ℕ × code.Connection))
+    → all_seen (xs ++ ys) ≡ all_seen xs ++ all_seen ys
+seen-append [] ys = refl
+seen-append (e ∷ xs) ys = ap (λ cs. seen e.0 e.1 ∷ cs) (seen-append xs ys)
 
-pub same-seen : (q r : List (End × List Item)) (es : List (ℕ × code.Connection))
-    → EachEntry (λ k x. seen r k x ≡ seen q k x) es → all_seen r es ≡ all_seen q es
-same-seen q r [] h = refl
-same-seen q r (e ∷ es) h =
-    ap (λ c. c ∷ all_seen r es) h.0 ∙ ap (λ cs. seen q e.0 e.1 ∷ cs) (same-seen q r es h.1)
-
-pub first-split : (q : List (End × List Item)) (front : List (ℕ × code.Connection)) (n : ℕ)
+pub first-split : (front : List (ℕ × code.Connection)) (n : ℕ)
     (f : Connection → Connection) (c : Connection) (cs : List Connection)
     → NoKey n front → c.number ≡ n
-    → at_first (numbered n) f (all_seen q front ++ c ∷ cs) ≡ all_seen q front ++ f c ∷ cs
-first-split q [] n f c cs h is =
+    → at_first (numbered n) f (all_seen front ++ c ∷ cs) ≡ all_seen front ++ f c ∷ cs
+first-split [] n f c cs h is =
     ap (λ b. cond b (f c ∷ cs) (c ∷ at_first (numbered n) f cs)) (eq-eqb c.number n is)
-first-split q (e ∷ front) n f c cs h is =
-    ap (λ b. cond b (f (seen q e.0 e.1) ∷ all_seen q front ++ c ∷ cs)
-    (seen q e.0 e.1 ∷ at_first (numbered n) f (all_seen q front ++ c ∷ cs))) (ne_eqb e.0 n h.0)
-    ∙ ap (λ ys. seen q e.0 e.1 ∷ ys) (first-split q front n f c cs h.1 is)
+first-split (e ∷ front) n f c cs h is =
+    ap (λ b. cond b (f (seen e.0 e.1) ∷ all_seen front ++ c ∷ cs)
+    (seen e.0 e.1 ∷ at_first (numbered n) f (all_seen front ++ c ∷ cs))) (ne_eqb e.0 n h.0)
+    ∙ ap (λ ys. seen e.0 e.1 ∷ ys) (first-split front n f c cs h.1 is)
 
-pub first-nowhere : (q : List (End × List Item)) (es : List (ℕ × code.Connection)) (n : ℕ)
+pub first-nowhere : (es : List (ℕ × code.Connection)) (n : ℕ)
     (f : Connection → Connection) → NoKey n es
-    → at_first (numbered n) f (all_seen q es) ≡ all_seen q es
-first-nowhere q [] n f h = refl
-first-nowhere q (e ∷ es) n f h =
-    ap (λ b. cond b (f (seen q e.0 e.1) ∷ all_seen q es)
-    (seen q e.0 e.1 ∷ at_first (numbered n) f (all_seen q es))) (ne_eqb e.0 n h.0)
-    ∙ ap (λ ys. seen q e.0 e.1 ∷ ys) (first-nowhere q es n f h.1)
+    → at_first (numbered n) f (all_seen es) ≡ all_seen es
+first-nowhere [] n f h = refl
+first-nowhere (e ∷ es) n f h =
+    ap (λ b. cond b (f (seen e.0 e.1) ∷ all_seen es)
+    (seen e.0 e.1 ∷ at_first (numbered n) f (all_seen es))) (ne_eqb e.0 n h.0)
+    ∙ ap (λ ys. seen e.0 e.1 ∷ ys) (first-nowhere es n f h.1)
 
-pub without-nowhere : (q : List (End × List Item)) (es : List (ℕ × code.Connection)) (n : ℕ)
-    → NoKey n es → without (numbered n) (all_seen q es) ≡ all_seen q es
-without-nowhere q [] n h = refl
-without-nowhere q (e ∷ es) n h =
-    ap (λ b. cond (not b) (seen q e.0 e.1 ∷ without (numbered n) (all_seen q es))
-    (without (numbered n) (all_seen q es))) (ne_eqb e.0 n h.0)
-    ∙ ap (λ ys. seen q e.0 e.1 ∷ ys) (without-nowhere q es n h.1)
+pub without-nowhere : (es : List (ℕ × code.Connection)) (n : ℕ)
+    → NoKey n es → without (numbered n) (all_seen es) ≡ all_seen es
+without-nowhere [] n h = refl
+without-nowhere (e ∷ es) n h =
+    ap (λ b. cond (not b) (seen e.0 e.1 ∷ without (numbered n) (all_seen es))
+    (without (numbered n) (all_seen es))) (ne_eqb e.0 n h.0)
+    ∙ ap (λ ys. seen e.0 e.1 ∷ ys) (without-nowhere es n h.1)
 
-pub without-split : (q : List (End × List Item)) (front back : List (ℕ × code.Connection))
+pub without-split : (front back : List (ℕ × code.Connection))
     (n : ℕ) (x : code.Connection) → NoKey n front → NoKey n back
-    → without (numbered n) (all_seen q (front ++ (n, x) ∷ back)) ≡ all_seen q (front ++ back)
-without-split q [] back n x h b =
-    ap (λ t. cond (not t) (seen q n x ∷ without (numbered n) (all_seen q back))
-    (without (numbered n) (all_seen q back))) (eq-eqb n n refl)
-    ∙ without-nowhere q back n b
-without-split q (e ∷ front) back n x h b =
+    → without (numbered n) (all_seen (front ++ (n, x) ∷ back)) ≡ all_seen (front ++ back)
+without-split [] back n x h b =
+    ap (λ t. cond (not t) (seen n x ∷ without (numbered n) (all_seen back))
+    (without (numbered n) (all_seen back))) (eq-eqb n n refl)
+    ∙ without-nowhere back n b
+without-split (e ∷ front) back n x h b =
     ap (λ t. cond (not t)
-    (seen q e.0 e.1 ∷ without (numbered n) (all_seen q (front ++ (n, x) ∷ back)))
-    (without (numbered n) (all_seen q (front ++ (n, x) ∷ back)))) (ne_eqb e.0 n h.0)
-    ∙ ap (λ ys. seen q e.0 e.1 ∷ ys) (without-split q front back n x h.1 b)
+    (seen e.0 e.1 ∷ without (numbered n) (all_seen (front ++ (n, x) ∷ back)))
+    (without (numbered n) (all_seen (front ++ (n, x) ∷ back)))) (ne_eqb e.0 n h.0)
+    ∙ ap (λ ys. seen e.0 e.1 ∷ ys) (without-split front back n x h.1 b)
 
 -- the connection with a number
-pub find-seen : (q : List (End × List Item)) (es : List (ℕ × code.Connection)) (n : ℕ)
-    → find (numbered n) (all_seen q es) ≡ option_map (seen q n) (lookup (nat_eq n) es)
-find-seen q [] n = refl
-find-seen q (e ∷ es) n = by (cases_eq n e.0) (find-seen q es n)
+pub find-seen : (es : List (ℕ × code.Connection)) (n : ℕ)
+    → find (numbered n) (all_seen es) ≡ option_map (seen n) (lookup (nat_eq n) es)
+find-seen [] n = refl
+find-seen (e ∷ es) n = by (cases_eq n e.0) (find-seen es n)
   where
     by : (n ≡ e.0) ⊎ (n ≢ e.0)
-        → find (numbered n) (all_seen q es) ≡ option_map (seen q n) (lookup (nat_eq n) es)
-        → find (numbered n) (all_seen q (e ∷ es))
-        ≡ option_map (seen q n) (lookup (nat_eq n) (e ∷ es))
+        → find (numbered n) (all_seen es) ≡ option_map (seen n) (lookup (nat_eq n) es)
+        → find (numbered n) (all_seen (e ∷ es))
+        ≡ option_map (seen n) (lookup (nat_eq n) (e ∷ es))
     by (inl same) later =
-        ap (λ b. cond b (Some (seen q e.0 e.1)) (find (numbered n) (all_seen q es)))
+        ap (λ b. cond b (Some (seen e.0 e.1)) (find (numbered n) (all_seen es)))
         (eq-eqb e.0 n (sym same))
-        ∙ ap (λ k. Some (seen q k e.1)) (sym same)
-        ∙ sym (ap (λ b. option_map (seen q n) (cond b (Some e.1) (lookup (nat_eq n) es)))
+        ∙ ap (λ k. Some (seen k e.1)) (sym same)
+        ∙ sym (ap (λ b. option_map (seen n) (cond b (Some e.1) (lookup (nat_eq n) es)))
         (same-number n e.0 same))
     by (inr ne) later =
-        ap (λ b. cond b (Some (seen q e.0 e.1)) (find (numbered n) (all_seen q es)))
+        ap (λ b. cond b (Some (seen e.0 e.1)) (find (numbered n) (all_seen es)))
         (ne_eqb e.0 n (λ q. ne (sym q)))
         ∙ later
-        ∙ sym (ap (λ b. option_map (seen q n) (cond b (Some e.1) (lookup (nat_eq n) es)))
+        ∙ sym (ap (λ b. option_map (seen n) (cond b (Some e.1) (lookup (nat_eq n) es)))
         (other-number n e.0 ne))
 
 -- a test that none passes but the one with a number
-pub find-none : (q : List (End × List Item)) (test : Connection → Bool)
-    (es : List (ℕ × code.Connection)) → EachEntry (λ k x. test (seen q k x) ≡ false) es
-    → find test (all_seen q es) ≡ None
-find-none q test [] h = refl
-find-none q test (e ∷ es) h =
-    ap (λ b. cond b (Some (seen q e.0 e.1)) (find test (all_seen q es))) h.0
-    ∙ find-none q test es h.1
+pub find-none : (test : Connection → Bool)
+    (es : List (ℕ × code.Connection)) → EachEntry (λ k x. test (seen k x) ≡ false) es
+    → find test (all_seen es) ≡ None
+find-none test [] h = refl
+find-none test (e ∷ es) h =
+    ap (λ b. cond b (Some (seen e.0 e.1)) (find test (all_seen es))) h.0
+    ∙ find-none test es h.1
 
-pub find-split : (q : List (End × List Item)) (test : Connection → Bool)
+pub find-split : (test : Connection → Bool)
     (front back : List (ℕ × code.Connection)) (n : ℕ) (x : code.Connection)
-    → EachEntry (λ k z. test (seen q k z) ≡ false) front
-    → EachEntry (λ k z. test (seen q k z) ≡ false) back
-    → find test (all_seen q (front ++ (n, x) ∷ back))
-    ≡ cond (test (seen q n x)) (Some (seen q n x)) None
-find-split q test [] back n x h b =
-    ap (λ o. cond (test (seen q n x)) (Some (seen q n x)) o) (find-none q test back b)
-find-split q test (e ∷ front) back n x h b =
-    ap (λ t. cond t (Some (seen q e.0 e.1)) (find test (all_seen q (front ++ (n, x) ∷ back)))) h.0
-    ∙ find-split q test front back n x h.1 b
+    → EachEntry (λ k z. test (seen k z) ≡ false) front
+    → EachEntry (λ k z. test (seen k z) ≡ false) back
+    → find test (all_seen (front ++ (n, x) ∷ back))
+    ≡ cond (test (seen n x)) (Some (seen n x)) None
+find-split test [] back n x h b =
+    ap (λ o. cond (test (seen n x)) (Some (seen n x)) o) (find-none test back b)
+find-split test (e ∷ front) back n x h b =
+    ap (λ t. cond t (Some (seen e.0 e.1)) (find test (all_seen (front ++ (n, x) ∷ back)))) h.0
+    ∙ find-split test front back n x h.1 b
 
 -- ---- one changes
 
--- The connection with a number changes, and what is seen of the others stays.
-pub changes : (q r : List (End × List Item)) (es fs : List (ℕ × code.Connection)) (n : ℕ)
-    (x y : code.Connection) (f : Connection → Connection)
-    → IsDistinct nat_eq (keys_of es) → lookup (nat_eq n) es ≡ Some x
-    → fs ≡ set_value (nat_eq n) es y → seen r n y ≡ f (seen q n x)
-    → ((k : ℕ) (z : code.Connection) → lookup (nat_eq k) es ≡ Some z → k ≢ n
-    → seen r k z ≡ seen q k z)
-    → all_seen r fs ≡ at_first (numbered n) f (all_seen q es)
-changes q r es fs n x y f s l set one others =
+-- The connection with a number changes.
+pub changes : (es fs : List (ℕ × code.Connection)) (n : ℕ) (x y : code.Connection)
+    (f : Connection → Connection) → IsDistinct nat_eq (keys_of es)
+    → lookup (nat_eq n) es ≡ Some x → fs ≡ set_value (nat_eq n) es y → seen n y ≡ f (seen n x)
+    → all_seen fs ≡ at_first (numbered n) f (all_seen es)
+changes es fs n x y f s l set one =
     let p = split es n x s l in
-    let all = each-entry (λ k z. k ≢ n → seen r k z ≡ seen q k z) es s others in
-    let there = subst (EachEntry (λ k z. k ≢ n → seen r k z ≡ seen q k z)) p.is all in
-    let front = both (λ k z. k ≢ n) (λ k z. seen r k z ≡ seen q k z) p.front p.before
-    (each-front (λ k z. k ≢ n → seen r k z ≡ seen q k z) p.front ((n, x) ∷ p.back) there) in
-    let back = both (λ k z. k ≢ n) (λ k z. seen r k z ≡ seen q k z) p.back p.behind
-    (each-back (λ k z. k ≢ n → seen r k z ≡ seen q k z) p.front ((n, x) ∷ p.back) there).1 in
-    ap (all_seen r)
+    ap all_seen
     (set ∙ ap (λ l. set_value (nat_eq n) l y) p.is ∙ set-split p.front p.back n x y p.before)
-    ∙ seen-append r p.front ((n, y) ∷ p.back)
-    ∙ ap (λ cs. cs ++ seen r n y ∷ all_seen r p.back) (same-seen q r p.front front)
-    ∙ ap (λ c. all_seen q p.front ++ c ∷ all_seen r p.back) one
-    ∙ ap (λ cs. all_seen q p.front ++ f (seen q n x) ∷ cs) (same-seen q r p.back back)
-    ∙ sym (first-split q p.front n f (seen q n x) (all_seen q p.back) p.before refl)
-    ∙ sym (ap (at_first (numbered n) f)
-    (ap (all_seen q) p.is ∙ seen-append q p.front ((n, x) ∷ p.back)))
+    ∙ seen-append p.front ((n, y) ∷ p.back)
+    ∙ ap (λ c. all_seen p.front ++ c ∷ all_seen p.back) one
+    ∙ sym (first-split p.front n f (seen n x) (all_seen p.back) p.before refl)
+    ∙ sym (ap (at_first (numbered n) f) (ap all_seen p.is ∙ seen-append p.front ((n, x) ∷ p.back)))

@@ -1,6 +1,6 @@
--- How the index of live connections is kept where one changes, or a queue.
-use Rattle.std.proofs.Common.{◌≡◌, ◌≢◌, ℕ, true, cond, ◌⊎◌, inl, inr, ⊎_elim, Option, Some}
-use Rattle.std.proofs.Common.{List, [], ◌∷◌, ◌++◌, refl, sym, ap, ◌∙◌, subst, IsSome}
+-- How the index of live connections is kept where one changes.
+use Rattle.std.proofs.Common.{◌≡◌, ◌≢◌, ℕ, true, false, ◌⊎◌, inl, inr, ⊎_elim, Some, List, []}
+use Rattle.std.proofs.Common.{refl, sym, ap, ◌∙◌, subst, IsSome}
 use Rattle.std.proofs.lemmas.Bool.{cases_eq, true≢false}
 use Rattle.std.proofs.lemmas.Map.{keys-set_value}
 use Rattle.std.specs.List.{IsDistinct}
@@ -9,22 +9,19 @@ use Rattle.std.specs.Prelude.{nat_eq}
 use Rattle.indexmap.specs.IndexMap.{IsUnique, get}
 use Rattle.gb_base.specs.declared.end.End.{End}
 use Rattle.gb_base.specs.declared.end.End.TheVariants as end
-use Rattle.gb_base.specs.declared.end.Side.{Side}
-use Rattle.gb_base.specs.declared.end.Side.TheVariants as side
 use Rattle.gb_bus.proofs.Entries.{same-some, set-here, set-others}
+use Rattle.gb_bus.specs.Connection.{Connection}
 use Rattle.gb_bus.specs.Ends.{is_far}
-use Rattle.gb_bus.specs.Index.{Ends, HasEnd, HasQueues, IsEndOf, IsIndexed, IsOwned, Live}
-use Rattle.gb_bus.specs.Index.{MapsAgree, number_at}
-use Rattle.gb_bus.specs.Parts.{end_at}
-use Rattle.gb_bus.specs.Seen.{alone, items_of, seen}
+use Rattle.gb_bus.specs.Index.{Ends, HasEnd, IsEndOf, IsIndexed, IsMarked, Live, MapsAgree}
+use Rattle.gb_bus.specs.Index.{Remarks, number_at}
+use Rattle.gb_bus.specs.Parts.{with_wire}
+use Rattle.gb_bus.specs.Seen.{seen}
 use Rattle.gb_bus.specs.Sides.{HasEndsOf}
 use Rattle.gb_bus.specs.declared.connection.Connection as code
 use Rattle.gb_bus.specs.declared.queue.Item.{Item}
-use Rattle.gb_switch.proofs.Lines.{is-end}
-use Rattle.gb_switch.specs.Queues.{Appends, Creates, Puts, Takes, items_at}
-
-abbrev pub Queues : Type 0
-Queues = List (End × List Item)
+use Rattle.gb_switch.proofs.Places.{is-end}
+use Rattle.gb_switch.specs.Queues.{has_items}
+use Rattle.gb_switch.specs.WaitingEnds.{Marks, is_in}
 
 -- ---- what is kept, by its parts
 
@@ -34,13 +31,6 @@ AreIndexed live ends =
 
 abbrev pub AreNumbered : Live → Ends → Type 0
 AreNumbered live ends = (at : End) (k : ℕ) → number_at ends at ≡ Some k → HasEnd live k at
-
-abbrev pub AreOwned : Live → Queues → Type 0
-AreOwned live q = (at : End) (items : List Item) → items_at q at ≡ Some items → IsOwned live at
-
-abbrev pub AreQueued : Live → Queues → Type 0
-AreQueued live q =
-    (k : ℕ) (x : code.Connection) → get nat_eq live k ≡ Some x → x.wired ≡ true → HasQueues q x
 
 -- ---- ends are those of one connection
 
@@ -64,34 +54,6 @@ ends-apart live ends k n z x a e i there found ne of_z of_x same =
 -- the two ends of one differ
 pub two-ends : (a : ℕ) (peer : End) → is_far peer ≡ true → end.Ap a ≢ peer
 two-ends a peer far e = true≢false (sym far ∙ sym (ap is_far e))
-
--- ---- what is seen where queues change
-
-pub seen-same : (q r : Queues) (k : ℕ) (z : code.Connection)
-    → items_at r (end.Ap z.ap) ≡ items_at q (end.Ap z.ap) → items_at r z.peer ≡ items_at q z.peer
-    → seen r k z ≡ seen q k z
-seen-same q r k z near far =
-    ap (λ i. record (seen r k z) { to_ap = cond z.wired (items_of i) [] }) near
-    ∙ ap (λ i. record (seen q k z) { to_far = cond z.wired (items_of i) [] }) far
-
--- the queues of other connections stay where those of one change
-pub seen-others : (live : Live) (ends : Ends) (q r : Queues) (k n : ℕ) (z x : code.Connection)
-    → AreIndexed live ends → get nat_eq live k ≡ Some z → get nat_eq live n ≡ Some x → k ≢ n
-    → ((a : End) → (IsEndOf a x → ⊥) → items_at r a ≡ items_at q a)
-    → seen r k z ≡ seen q k z
-seen-others live ends q r k n z x i there found ne stay =
-    seen-same q r k z
-    (stay (end.Ap z.ap)
-    (λ of_x. ends-apart live ends k n z x (end.Ap z.ap) (end.Ap z.ap) i there found ne (inl refl)
-    of_x refl))
-    (stay z.peer
-    (λ of_x. ends-apart live ends k n z x z.peer z.peer i there found ne (inr refl) of_x refl))
-
--- an end of another is none of these
-pub not-one : (x : code.Connection) (a : End) (s : Side) → (IsEndOf a x → ⊥)
-    → a ≢ end_at s (alone 0 x)
-not-one x a side.Ap never e = never (inl e)
-not-one x a side.Far never e = never (inr e)
 
 -- ---- one connection changes, but not its ends
 
@@ -145,32 +107,6 @@ pub end-of-set : (x y : code.Connection) (a : End) → y.ap ≡ x.ap → y.peer 
 end-of-set x y a ap_is peer_is own =
     ⊎_elim (λ e. inl (e ∙ ap end.Ap (sym ap_is))) (λ e. inr (e ∙ sym peer_is)) own
 
-pub owned-set : (live live' : Live) (n : ℕ) (x y : code.Connection) (a : End)
-    → get nat_eq live n ≡ Some x → live'.entries ≡ set_value (nat_eq n) live.entries y
-    → y.ap ≡ x.ap → y.peer ≡ x.peer → (x.wired ≡ true → y.wired ≡ true)
-    → IsOwned live a → IsOwned live' a
-owned-set live live' n x y a found set ap_is peer_is wires o = by (cases_eq o.number n)
-  where
-    by : (o.number ≡ n) ⊎ (o.number ≢ n) → IsOwned live' a
-    by (inl e) =
-        let same : o.connection ≡ x = same-some o.connection x
-        (sym o.there ∙ ap (λ k. get nat_eq live k) e ∙ found) in
-        record {
-          number = n;
-          connection = y;
-          there = ap (lookup (nat_eq n)) set ∙ set-here n live.entries x y found;
-          wired = wires (ap (λ (c : code.Connection). c.wired) (sym same) ∙ o.wired);
-          own = end-of-set x y a ap_is peer_is (subst (IsEndOf a) same o.own);
-        }
-    by (inr ne) = record {
-      number = o.number;
-      connection = o.connection;
-      there = ap (lookup (nat_eq o.number)) set ∙ set-others n o.number live.entries y ne
-          ∙ o.there;
-      wired = o.wired;
-      own = o.own;
-    }
-
 -- an end is still one of the connection with a number
 has-end-set : (live live' : Live) (n k : ℕ) (x y : code.Connection) (a : End)
     → get nat_eq live n ≡ Some x → live'.entries ≡ set_value (nat_eq n) live.entries y
@@ -199,43 +135,87 @@ pub numbered-set : (live live' : Live) (ends : Ends) (n : ℕ) (x y : code.Conne
 numbered-set live live' ends n x y found set ap_is peer_is h a k has =
     has-end-set live live' n k x y a found set ap_is peer_is (h a k has)
 
--- queues are there still
-pub queued-set : (live live' : Live) (q : Queues) (n : ℕ) (x y : code.Connection)
-    → get nat_eq live n ≡ Some x → live'.entries ≡ set_value (nat_eq n) live.entries y
-    → y.ap ≡ x.ap → y.peer ≡ x.peer → (y.wired ≡ true → HasQueues q x)
-    → ((k : ℕ) (z : code.Connection) → k ≢ n → get nat_eq live k ≡ Some z → z.wired ≡ true
-    → HasQueues q z)
-    → AreQueued live' q
-queued-set live live' q n x y found set ap_is peer_is own others k z there w =
-    by (get-set live live' n k x y z found set there)
-  where
-    by : ((k ≡ n) × (z ≡ y)) ⊎ ((k ≢ n) × (get nat_eq live k ≡ Some z)) → HasQueues q z
-    by (inl e) =
-        let h = own (ap (λ (c : code.Connection). c.wired) (sym e.1) ∙ w) in
-        record {
-          near = subst (λ a. IsSome (items_at q (end.Ap a)))
-              (sym (ap (λ (c : code.Connection). c.ap) e.1 ∙ ap_is)) h.near;
-          far = subst (λ p. IsSome (items_at q p))
-              (sym (ap (λ (c : code.Connection). c.peer) e.1 ∙ peer_is)) h.far;
-        }
-    by (inr e) = others k z e.0 e.1 w
+-- ---- what is marked
 
--- but what waits, and not its wire
-pub kept-set : (live live' : Live) (ends : Ends) (q : Queues) (n : ℕ) (x y : code.Connection)
-    → get nat_eq live n ≡ Some x → live'.entries ≡ set_value (nat_eq n) live.entries y
-    → HasEndsOf (alone 0 x) (alone 0 y) → MapsAgree live ends q → MapsAgree live' ends q
-kept-set live live' ends q n x y found set s k = record {
-  unique = unique-set live live' n y set k.unique;
-  indexed = indexed-set live live' ends n x y found set s.near s.far k.indexed;
-  numbered = numbered-set live live' ends n x y found set s.near s.far k.numbered;
-  owned = λ a items t.
-      owned-set live live' n x y a found set s.near s.far (λ w. s.wire ∙ w) (k.owned a items t);
-  queued = queued-set live live' q n x y found set s.near s.far
-      (λ w. k.queued n x found (sym s.wire ∙ w)) (λ j z ne there w. k.queued j z there w);
+-- the ends of other connections stay marked or not where those of one change
+pub marked-others : (live : Live) (ends : Ends) (q r : List End) (k n : ℕ) (z x : code.Connection)
+    → AreIndexed live ends → get nat_eq live k ≡ Some z → get nat_eq live n ≡ Some x → k ≢ n
+    → ((a : End) → (IsEndOf a x → ⊥) → is_in r a ≡ is_in q a) → IsMarked q z → IsMarked r z
+marked-others live ends q r k n z x i there found ne stay m = record {
+  near = stay (end.Ap z.ap)
+      (λ of_x. ends-apart live ends k n z x (end.Ap z.ap) (end.Ap z.ap) i there found ne (inl refl)
+      of_x refl)
+      ∙ m.near;
+  far = stay z.peer
+      (λ of_x. ends-apart live ends k n z x z.peer z.peer i there found ne (inr refl) of_x refl)
+      ∙ m.far;
+  idle = m.idle;
 }
 
+-- what is kept where one connection changes, but not its ends
+pub kept-change : (live live' : Live) (ends : Ends) (q r : List End) (n : ℕ)
+    (x y : code.Connection)
+    → get nat_eq live n ≡ Some x → live'.entries ≡ set_value (nat_eq n) live.entries y
+    → Remarks q r x y → MapsAgree live ends q → MapsAgree live' ends r
+kept-change live live' ends q r n x y found set m k = record {
+  unique = unique-set live live' n y set k.unique;
+  indexed = indexed-set live live' ends n x y found set m.near m.far k.indexed;
+  numbered = numbered-set live live' ends n x y found set m.near m.far k.numbered;
+  marked = λ j z there. one j z (get-set live live' n j x y z found set there);
+  owned = λ a is. whose a is (is-end a (end.Ap x.ap)) (is-end a x.peer);
+}
+  where
+    one : (j : ℕ) (z : code.Connection)
+        → ((j ≡ n) × (z ≡ y)) ⊎ ((j ≢ n) × (get nat_eq live j ≡ Some z)) → IsMarked r z
+    one j z (inl e) = subst (IsMarked r) (sym e.1) m.own
+    one j z (inr e) =
+        marked-others live ends q r j n z x k.indexed e.1 found e.0 m.others (k.marked j z e.1)
+
+    own : (a : End) → IsEndOf a x → IsSome (number_at ends a)
+    own a is = subst IsSome (sym (number-of-end ends n x a (k.indexed n x found) is)) refl
+
+    whose : (a : End) → is_in r a ≡ true → (a ≡ end.Ap x.ap) ⊎ (a ≢ end.Ap x.ap)
+        → (a ≡ x.peer) ⊎ (a ≢ x.peer) → IsSome (number_at ends a)
+    whose a is (inl e) far = own a (inl e)
+    whose a is (inr near) (inl e) = own a (inr e)
+    whose a is (inr near) (inr far) =
+        k.owned a (sym (m.others a (λ of_x. ⊎_elim near far of_x)) ∙ is)
+
+-- where the same waits at the same ends
+pub same-marks : (q : List End) (x y : code.Connection) → HasEndsOf (seen 0 x) (seen 0 y)
+    → IsMarked q x → Remarks q q x y
+same-marks q x y s m = record {
+  near = s.near;
+  far = s.far;
+  own = record {
+    near = ap (λ a. is_in q (end.Ap a)) s.near ∙ m.near ∙ ap has_items (sym s.near_waits);
+    far = ap (is_in q) s.far ∙ m.far ∙ ap has_items (sym s.far_waits);
+    idle = λ loose.
+        let i = m.idle (sym s.wire ∙ loose) in (s.near_waits ∙ i.0, s.far_waits ∙ i.1);
+  };
+  others = λ a never. refl;
+}
+
+-- so it does, and then something else waits there
+pub marks-after : (q r : List End) (x y z : code.Connection) → HasEndsOf (seen 0 x) (seen 0 y)
+    → Remarks q r y z → Remarks q r x z
+marks-after q r x y z s m = record {
+  near = m.near ∙ s.near;
+  far = m.far ∙ s.far;
+  own = m.own;
+  others = λ a never.
+      m.others a
+      (λ own. never (⊎_elim (λ e. inl (e ∙ ap end.Ap s.near)) (λ e. inr (e ∙ s.far)) own));
+}
+
+pub kept-set : (live live' : Live) (ends : Ends) (q : List End) (n : ℕ) (x y : code.Connection)
+    → get nat_eq live n ≡ Some x → live'.entries ≡ set_value (nat_eq n) live.entries y
+    → HasEndsOf (seen 0 x) (seen 0 y) → MapsAgree live ends q → MapsAgree live' ends q
+kept-set live live' ends q n x y found set s k =
+    kept-change live live' ends q q n x y found set (same-marks q x y s (k.marked n x found)) k
+
 -- none changes
-pub kept-same : (live live' : Live) (ends : Ends) (q : Queues) → live'.entries ≡ live.entries
+pub kept-same : (live live' : Live) (ends : Ends) (q : List End) → live'.entries ≡ live.entries
     → MapsAgree live ends q → MapsAgree live' ends q
 kept-same live live' ends q same k = record {
   unique = subst (λ es. IsDistinct nat_eq (keys_of es)) (sym same) k.unique;
@@ -247,84 +227,72 @@ kept-same live live' ends q same k = record {
         there = ap (lookup (nat_eq n)) same ∙ h.there;
         own = h.own;
       };
-  owned = λ a items t.
-      let o = k.owned a items t in
-      record {
-        number = o.number;
-        connection = o.connection;
-        there = ap (lookup (nat_eq o.number)) same ∙ o.there;
-        wired = o.wired;
-        own = o.own;
-      };
-  queued = λ n x there w. k.queued n x (ap (lookup (nat_eq n)) (sym same) ∙ there) w;
+  marked = λ n x there. k.marked n x (ap (lookup (nat_eq n)) (sym same) ∙ there);
+  owned = k.owned;
 }
 
--- ---- queues change
+-- ---- what waits at an end of one connection changes
 
--- each queue is there still
-abbrev pub Stay : Queues → Queues → Type 0
-Stay q r = (a : End) → IsSome (items_at q a) → IsSome (items_at r a)
-
-pub stay-queued : (q r : Queues) (x : code.Connection) → Stay q r → HasQueues q x → HasQueues r x
-stay-queued q r x stay h =
-    record { near = stay (end.Ap x.ap) h.near; far = stay x.peer h.far }
-
--- where each end with a queue had one
-pub kept-queues : (live : Live) (ends : Ends) (q r : Queues)
-    → ((a : End) (items : List Item) → items_at r a ≡ Some items → IsOwned live a)
-    → Stay q r → MapsAgree live ends q → MapsAgree live ends r
-kept-queues live ends q r owned stay k = record {
-  unique = k.unique;
-  indexed = k.indexed;
-  numbered = k.numbered;
-  owned = owned;
-  queued = λ n x there w. stay-queued q r x stay (k.queued n x there w);
+-- at the CPort of the application processor
+pub near-changes : (q r : List End) (x : code.Connection) (items : List Item) (at : End)
+    → is_far x.peer ≡ true → IsMarked q x → at ≡ end.Ap x.ap → Marks q r at (has_items items)
+    → (x.wired ≡ false → items ≡ []) → Remarks q r x (record x { to_ap = items })
+near-changes q r x items at far k is m idle = record {
+  near = refl;
+  far = refl;
+  own = record {
+    near = ap (is_in r) (sym is) ∙ m.here;
+    far = m.others x.peer (λ e. two-ends x.ap x.peer far (sym (e ∙ is))) ∙ k.far;
+    idle = λ loose. (idle loose, (k.idle loose).1);
+  };
+  others = λ a never. m.others a (λ e. never (inl (e ∙ is)));
 }
 
-stay-put : (q r : Queues) (at : End) (items : List Item)
-    → Puts (items_at q) (items_at r) at (Some items) → Stay q r
-stay-put q r at items puts a h = by (is-end a at)
-  where
-    by : (a ≡ at) ⊎ (a ≢ at) → IsSome (items_at r a)
-    by (inl e) = subst IsSome (sym (ap (items_at r) e ∙ puts.here)) refl
-    by (inr ne) = subst IsSome (sym (puts.others a ne)) h
+-- at the far end
+pub far-changes : (q r : List End) (x : code.Connection) (items : List Item) (at : End)
+    → is_far x.peer ≡ true → IsMarked q x → at ≡ x.peer → Marks q r at (has_items items)
+    → (x.wired ≡ false → items ≡ []) → Remarks q r x (record x { to_far = items })
+far-changes q r x items at far k is m idle = record {
+  near = refl;
+  far = refl;
+  own = record {
+    near = m.others (end.Ap x.ap) (λ e. two-ends x.ap x.peer far (e ∙ is)) ∙ k.near;
+    far = ap (is_in r) (sym is) ∙ m.here;
+    idle = λ loose. ((k.idle loose).0, idle loose);
+  };
+  others = λ a never. m.others a (λ e. never (inr (e ∙ is)));
+}
 
-pub stay-created : (q r : Queues) (b c : End) → Creates q r b c → Stay q r
-stay-created q r b c made a h = near (is-end a b)
-  where
-    far : a ≢ b → (a ≡ c) ⊎ (a ≢ c) → IsSome (items_at r a)
-    far ne (inl e) = subst IsSome (sym (ap (items_at r) e ∙ made.at_b)) refl
-    far ne (inr other) = subst IsSome (sym (made.others a ne other)) h
+-- nothing waits any more
+pub both-lost : (q m r : List End) (x : code.Connection) (near far : End) → is_far x.peer ≡ true
+    → near ≡ end.Ap x.ap → far ≡ x.peer → Marks q m near false → Marks m r far false
+    → Remarks q r x (record x { to_ap = []; to_far = [] })
+both-lost q m r x near far beyond is-near is-far n f = record {
+  near = refl;
+  far = refl;
+  own = record {
+    near =
+        f.others (end.Ap x.ap) (λ e. two-ends x.ap x.peer beyond (e ∙ is-far))
+        ∙ ap (is_in m) (sym is-near) ∙ n.here;
+    far = ap (is_in r) (sym is-far) ∙ f.here;
+    idle = λ loose. (refl, refl);
+  };
+  others = λ a never.
+      f.others a (λ e. never (inr (e ∙ is-far))) ∙ n.others a (λ e. never (inl (e ∙ is-near)));
+}
 
-    near : (a ≡ b) ⊎ (a ≢ b) → IsSome (items_at r a)
-    near (inl e) = subst IsSome (sym (ap (items_at r) e ∙ made.at_a)) refl
-    near (inr ne) = far ne (is-end a c)
-
-owned-put : (live : Live) (q r : Queues) (at : End) (before : List Item)
-    (value : Option (List Item)) → AreOwned live q → items_at q at ≡ Some before
-    → Puts (items_at q) (items_at r) at value → AreOwned live r
-owned-put live q r at before value owned was puts a items there = by (is-end a at)
-  where
-    by : (a ≡ at) ⊎ (a ≢ at) → IsOwned live a
-    by (inl e) = subst (IsOwned live) (sym e) (owned at before was)
-    by (inr ne) = owned a items (sym (puts.others a ne) ∙ there)
-
-pub kept-appends : (live : Live) (ends : Ends) (q r : Queues) (at : End) (item : Item)
-    → Appends (items_at q) (items_at r) at item → MapsAgree live ends q → MapsAgree live ends r
-kept-appends live ends q r at item h k =
-    kept-queues live ends q r
-    (owned-put live q r at h.before (Some (h.before ++ item ∷ [])) k.owned h.was h.puts)
-    (stay-put q r at (h.before ++ item ∷ []) h.puts) k
-
-pub kept-takes : (live : Live) (ends : Ends) (q r : Queues) (at : End) (item : Item)
-    → Takes (items_at q) (items_at r) at item → MapsAgree live ends q → MapsAgree live ends r
-kept-takes live ends q r at item h k =
-    kept-queues live ends q r
-    (owned-put live q r at (item ∷ h.behind) (Some h.behind) k.owned h.was h.puts)
-    (stay-put q r at h.behind h.puts) k
-
-pub kept-stays : (live : Live) (ends : Ends) (q r : Queues)
-    → ((a : End) → items_at r a ≡ items_at q a) → MapsAgree live ends q → MapsAgree live ends r
-kept-stays live ends q r same k =
-    kept-queues live ends q r (λ a items there. k.owned a items (sym (same a) ∙ there))
-    (λ a h. subst IsSome (sym (same a)) h) k
+-- a connection that is wired
+pub wired-marks : (q : List End) (x y : code.Connection) → seen 0 y ≡ with_wire (seen 0 x)
+    → IsMarked q x → Remarks q q x y
+wired-marks q x y is m = record {
+  near = ap (λ (c : Connection). c.ap) is;
+  far = ap (λ (c : Connection). c.peer) is;
+  own = record {
+    near = ap (λ (c : Connection). is_in q (end.Ap c.ap)) is ∙ m.near
+        ∙ sym (ap (λ (c : Connection). has_items c.to_ap) is);
+    far = ap (λ (c : Connection). is_in q c.peer) is ∙ m.far
+        ∙ sym (ap (λ (c : Connection). has_items c.to_far) is);
+    idle = λ loose. absurd (true≢false (sym (ap (λ (c : Connection). c.wired) is) ∙ loose));
+  };
+  others = λ a never. refl;
+}

@@ -1,6 +1,6 @@
 -- How the index of live connections is kept where one is added, or removed.
 use Rattle.std.proofs.Common.{◌≡◌, ◌≢◌, ℕ, Bool, true, false, cond, ◌⊎◌, inl, inr, ⊎_elim}
-use Rattle.std.proofs.Common.{Option, Some, None, refl, sym, ap, ◌∙◌, subst, is_some}
+use Rattle.std.proofs.Common.{Option, Some, None, refl, sym, ap, ◌∙◌, subst, is_some, IsSome, List}
 use Rattle.std.proofs.lemmas.Bool.{cases_eq, true≢false}
 use Rattle.std.specs.Ordering.{eq_by_cmp}
 use Rattle.std.specs.Prelude.{nat_eq}
@@ -8,16 +8,19 @@ use Rattle.indexmap.specs.IndexMap.{IsUnique, get}
 use Rattle.gb_base.specs.declared.end.End.{End}
 use Rattle.gb_base.specs.declared.end.End.TheVariants as end
 use Rattle.gb_bus.proofs.Entries.{other-number, same-number, same-some, some-none}
-use Rattle.gb_bus.proofs.Keeping.{Queues, ends-apart}
-use Rattle.gb_bus.proofs.KeepingWires.{owner-elsewhere, queued-elsewhere}
+use Rattle.gb_bus.proofs.Keeping.{ends-apart, marked-others}
+use Rattle.gb_bus.specs.Connection.{Connection}
 use Rattle.gb_bus.specs.Ends.{is_far}
-use Rattle.gb_bus.specs.Index.{Ends, GetsNumber, HasEnd, HasQueues, IsEndOf, IsIndexed}
-use Rattle.gb_bus.specs.Index.{KeepsNumbers, MapsAgree, Live, LosesNumber, number_at}
+use Rattle.gb_bus.specs.Index.{Ends, GetsNumber, HasEnd, IsEndOf, IsIdle, IsIndexed}
+use Rattle.gb_bus.specs.Index.{IsMarked, KeepsNumbers, MapsAgree, Live, LosesNumber}
+use Rattle.gb_bus.specs.Index.{Remarks, number_at}
+use Rattle.gb_bus.specs.Parts.{idled}
+use Rattle.gb_bus.specs.Seen.{seen}
 use Rattle.gb_bus.specs.declared.connection.Connection as code
-use Rattle.gb_switch.proofs.Lines.{is-end}
-use Rattle.gb_switch.proofs.Places.{cmp-other, cmp-own}
+use Rattle.gb_switch.proofs.Places.{by-false, cmp-other, cmp-own, is-end}
 use Rattle.gb_switch.specs.Places.{end_cmp}
-use Rattle.gb_switch.specs.Queues.{Destroys}
+use Rattle.gb_switch.specs.Queues.{has_items}
+use Rattle.gb_switch.specs.WaitingEnds.{is_in}
 
 -- ---- a connection is removed
 
@@ -48,11 +51,27 @@ pub index-here : (m n : Ends) (p : End) (w : Option ℕ) → Updated m n p w
     → number_at n p ≡ w
 index-here m n p w u = u p ∙ ap (λ b. cond b w (number_at m p)) (cmp-own p)
 
-pub kept-removed : (live live' : Live) (e f : Ends) (q r : Queues) (n : ℕ) (x : code.Connection)
-    → get nat_eq live n ≡ Some x → Changed live live' n None → IsUnique nat_eq live'
-    → LosesNumber e f (end.Ap x.ap) x.peer → Destroys q r (end.Ap x.ap) x.peer → MapsAgree live e q
-    → MapsAgree live' f r
-kept-removed live live' e f q r n x found gone s loses lost k = record {
+-- the ends of a connection aren't marked
+pub record IsUnmarked (r : List End) (x : code.Connection) : Type 0 where
+  pub near : is_in r (end.Ap x.ap) ≡ false
+  pub far : is_in r x.peer ≡ false
+
+-- so it is where nothing waits there any more
+pub unmarked : (q r : List End) (x y : code.Connection) → seen 0 y ≡ idled (seen 0 x)
+    → Remarks q r x y → IsUnmarked r x
+unmarked q r x y is m = record {
+  near =
+      ap (λ a. is_in r (end.Ap a)) (sym m.near) ∙ m.own.near
+      ∙ ap (λ (c : Connection). has_items c.to_ap) is;
+  far =
+      ap (is_in r) (sym m.far) ∙ m.own.far ∙ ap (λ (c : Connection). has_items c.to_far) is;
+}
+
+pub kept-removed : (live live' : Live) (e f : Ends) (q r : List End) (n : ℕ)
+    (x y : code.Connection) → get nat_eq live n ≡ Some x → Changed live live' n None
+    → IsUnique nat_eq live' → LosesNumber e f (end.Ap x.ap) x.peer
+    → seen 0 y ≡ idled (seen 0 x) → Remarks q r x y → MapsAgree live e q → MapsAgree live' f r
+kept-removed live live' e f q r n x y found gone s loses lost m k = record {
   unique = s;
   indexed = λ j z there.
       let ne = other j z there in
@@ -64,18 +83,11 @@ kept-removed live live' e f q r n x found gone s loses lost k = record {
         beyond = i.beyond;
       };
   numbered = λ a j has. has-still a j has (is-end a (end.Ap x.ap)) (is-end a x.peer);
-  owned = λ a items there.
-      let w = owner-elsewhere live q r n x a items found k.owned lost there in
-      record {
-        number = w.0.number;
-        connection = w.0.connection;
-        there = changed-others live live' n w.0.number None gone w.1 ∙ w.0.there;
-        wired = w.0.wired;
-        own = w.0.own;
-      };
-  queued = λ j z there w.
+  marked = λ j z there.
       let ne = other j z there in
-      queued-elsewhere live e q r n j x z k found lost ne (before j z ne there) w;
+      let was = before j z ne there in
+      marked-others live e q r j n z x k.indexed was found ne m.others (k.marked j z was);
+  owned = λ a is. whose a is (is-end a (end.Ap x.ap)) (is-end a x.peer);
 }
   where
     other : (j : ℕ) (z : code.Connection) → get nat_eq live' j ≡ Some z → j ≢ n
@@ -93,6 +105,19 @@ kept-removed live live' e f q r n x found gone s loses lost k = record {
         loses.others a
         (ends-apart live e j n z x a (end.Ap x.ap) k.indexed was found ne own (inl refl))
         (ends-apart live e j n z x a x.peer k.indexed was found ne own (inr refl))
+
+    gone-marks : IsUnmarked r x
+    gone-marks = unmarked q r x y lost m
+
+    whose : (a : End) → is_in r a ≡ true → (a ≡ end.Ap x.ap) ⊎ (a ≢ end.Ap x.ap)
+        → (a ≡ x.peer) ⊎ (a ≢ x.peer) → IsSome (number_at f a)
+    whose a is (inl near) far =
+        absurd (true≢false (sym is ∙ ap (is_in r) near ∙ gone-marks.near))
+    whose a is (inr near) (inl far) =
+        absurd (true≢false (sym is ∙ ap (is_in r) far ∙ gone-marks.far))
+    whose a is (inr near) (inr far) =
+        subst IsSome (sym (loses.others a near far))
+        (k.owned a (sym (m.others a (λ own. ⊎_elim near far own)) ∙ is))
 
     -- an end that has a number still isn't one of the connection that is gone
     elsewhere : (a : End) (j : ℕ) → a ≢ end.Ap x.ap → a ≢ x.peer → HasEnd live j a → j ≢ n
@@ -118,7 +143,7 @@ kept-removed live live' e f q r n x found gone s loses lost k = record {
 -- ---- ends get a number, or lose it
 
 -- the numbers that ends have stay, and no other end has one
-pub kept-numbers : (live : Live) (e f : Ends) (q : Queues) → KeepsNumbers e f → MapsAgree live e q
+pub kept-numbers : (live : Live) (e f : Ends) (q : List End) → KeepsNumbers e f → MapsAgree live e q
     → MapsAgree live f q
 kept-numbers live e f q keeps k = record {
   unique = k.unique;
@@ -130,8 +155,8 @@ kept-numbers live e f q keeps k = record {
         beyond = i.beyond;
       };
   numbered = λ a j has. k.numbered a j (sym (keeps a) ∙ has);
-  owned = k.owned;
-  queued = k.queued;
+  marked = k.marked;
+  owned = λ a is. subst IsSome (sym (keeps a)) (k.owned a is);
 }
 
 -- nothing is there where a map has nothing
@@ -196,25 +221,27 @@ gets-loses m n o near far v got lost at = by (is-end at near) (is-end at far)
         ap (number_at o) e ∙ lost.at_far ∙ sym (ap (number_at m) e ∙ got.free_far)
     by (inr ne) (inr differs) = lost.others at ne differs ∙ got.others at ne differs
 
--- a connection is there whose ends have its number
-pub kept-added : (live live' : Live) (e f : Ends) (q : Queues) (n : ℕ) (x : code.Connection)
+-- an end that has no number isn't marked
+pub not-marked : (live : Live) (e : Ends) (q : List End) (a : End) → MapsAgree live e q
+    → number_at e a ≡ None → is_in q a ≡ false
+not-marked live e q a k none =
+    by-false (is_in q a) (λ is. never (number_at e a) none (k.owned a is))
+  where
+    never : (o : Option ℕ) → o ≡ None → IsSome o → ⊥
+    never None e is = absurd (cc is)
+    never (Some j) e is = absurd (some-none j e)
+
+-- a connection is there whose ends have its number, and where nothing waits
+pub kept-added : (live live' : Live) (e f : Ends) (q : List End) (n : ℕ) (x : code.Connection)
     → get nat_eq live n ≡ None → Changed live live' n (Some x) → IsUnique nat_eq live'
-    → GetsNumber e f (end.Ap x.ap) x.peer n → is_far x.peer ≡ true
-    → x.wired ≡ false → MapsAgree live e q → MapsAgree live' f q
-kept-added live live' e f q n x free more s got beyond loose k = record {
+    → GetsNumber e f (end.Ap x.ap) x.peer n → is_far x.peer ≡ true → IsIdle x
+    → MapsAgree live e q → MapsAgree live' f q
+kept-added live live' e f q n x free more s got beyond idle k = record {
   unique = s;
   indexed = λ j z there. by j z there (cases_eq j n);
   numbered = λ a j has. has-now a j has (is-end a (end.Ap x.ap)) (is-end a x.peer);
-  owned = λ a items there.
-      let o = k.owned a items there in
-      record {
-        number = o.number;
-        connection = o.connection;
-        there = stays o.number o.connection o.there;
-        wired = o.wired;
-        own = o.own;
-      };
-  queued = λ j z there w. have j z there w (cases_eq j n);
+  marked = λ j z there. mark j z there (cases_eq j n);
+  owned = λ a is. still a (number_at e a) refl (k.owned a is);
 }
   where
     stays : (j : ℕ) (z : code.Connection) → get nat_eq live j ≡ Some z
@@ -229,13 +256,18 @@ kept-added live live' e f q n x free more s got beyond loose k = record {
         same-some x z (sym (changed-here live live' n (Some x) more)
         ∙ ap (λ m. get nat_eq live' m) (sym same) ∙ there)
 
-    have : (j : ℕ) (z : code.Connection) → get nat_eq live' j ≡ Some z → z.wired ≡ true
-        → (j ≡ n) ⊎ (j ≢ n) → HasQueues q z
-    have j z there w (inl same) =
-        absurd (true≢false (sym w ∙ ap (λ (c : code.Connection). c.wired)
-        (sym (is-new j z there same)) ∙ loose))
-    have j z there w (inr ne) =
-        k.queued j z (sym (changed-others live live' n j (Some x) more ne) ∙ there) w
+    own : IsMarked q x
+    own = record {
+      near = not-marked live e q (end.Ap x.ap) k got.free_near ∙ ap has_items (sym idle.0);
+      far = not-marked live e q x.peer k got.free_far ∙ ap has_items (sym idle.1);
+      idle = λ loose. idle;
+    }
+
+    mark : (j : ℕ) (z : code.Connection) → get nat_eq live' j ≡ Some z → (j ≡ n) ⊎ (j ≢ n)
+        → IsMarked q z
+    mark j z there (inl same) = subst (IsMarked q) (is-new j z there same) own
+    mark j z there (inr ne) =
+        k.marked j z (sym (changed-others live live' n j (Some x) more ne) ∙ there)
 
     -- an end that had a number has it
     keeps : (j : ℕ) (a : End) → number_at e a ≡ Some j → number_at f a ≡ Some j
@@ -244,6 +276,10 @@ kept-added live live' e f q n x free more s got beyond loose k = record {
         (λ same. some-none j (sym has ∙ ap (number_at e) same ∙ got.free_near))
         (λ same. some-none j (sym has ∙ ap (number_at e) same ∙ got.free_far))
         ∙ has
+
+    still : (a : End) (o : Option ℕ) → number_at e a ≡ o → IsSome o → IsSome (number_at f a)
+    still a None has is = absurd (cc is)
+    still a (Some j) has is = subst IsSome (sym (keeps j a has)) refl
 
     by : (j : ℕ) (z : code.Connection) → get nat_eq live' j ≡ Some z → (j ≡ n) ⊎ (j ≢ n)
         → IsIndexed f j z

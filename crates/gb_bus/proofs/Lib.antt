@@ -17,7 +17,6 @@ pub mod First
 pub mod Injects
 pub mod Keeping
 pub mod KeepingLive
-pub mod KeepingWires
 pub mod Listed
 pub mod LivePlaces
 pub mod LookedUp
@@ -25,10 +24,8 @@ pub mod Loosening
 pub mod Mapped
 pub mod Named
 pub mod Opening
-pub mod OverviewEntries
 pub mod Overviews
 pub mod Placing
-pub mod Queued
 pub mod Queues
 pub mod Quiet
 pub mod Replies
@@ -36,7 +33,6 @@ pub mod SeeingChanges
 pub mod SeeingLive
 pub mod SeeingQueues
 pub mod SeeingSides
-pub mod SeeingWires
 pub mod Sends
 pub mod SideChanges
 pub mod SideLists

@@ -5,14 +5,14 @@ use Rattle.std.proofs.Common.{subst}
 use Rattle.std.specs.Map.{set_value}
 use Rattle.std.specs.Prelude.{nat_eq}
 use Rattle.indexmap.specs.IndexMap.{get}
+use Rattle.gb_base.specs.declared.end.End.{End}
 use Rattle.gb_base.specs.declared.end.Side.{Side}
 use Rattle.gb_base.specs.declared.end.Side.TheVariants as side
-use Rattle.gb_bus.proofs.Keeping.{Queues}
 use Rattle.gb_bus.proofs.SeeingChanges.{changes-one, filled, finds, ops-seen}
 use Rattle.gb_bus.specs.Connection.{Connection}
 use Rattle.gb_bus.specs.Index.{Ends, MapsAgree, Live}
 use Rattle.gb_bus.specs.Parts.{is_soiled, numbered, ops_of, with_ops}
-use Rattle.gb_bus.specs.Seen.{all_seen, alone, seen}
+use Rattle.gb_bus.specs.Seen.{all_seen, seen}
 use Rattle.gb_bus.specs.Sides.{ChangesSide}
 use Rattle.gb_bus.specs.Sides.{HasEndsOf, IsNotOf, MatchesAs, MatchesIn, MatchesOn, OnSide}
 use Rattle.gb_bus.specs.Sides.{RespondsIn, RespondsOn, asked_of}
@@ -23,32 +23,44 @@ use Rattle.gb_ops.specs.declared.entries.Matched.{Matched}
 use Rattle.gb_ops.specs.declared.entries.Matched.TheVariants as matched
 
 ops-ends : (x : Connection) (s : Side) (ops : Operations) → HasEndsOf x (with_ops s ops x)
-ops-ends x side.Ap ops = record { near = refl; far = refl; wire = refl }
-ops-ends x side.Far ops = record { near = refl; far = refl; wire = refl }
+ops-ends x side.Ap ops = record {
+  near = refl;
+  far = refl;
+  wire = refl;
+  near_waits = refl;
+  far_waits = refl;
+}
+ops-ends x side.Far ops = record {
+  near = refl;
+  far = refl;
+  wire = refl;
+  near_waits = refl;
+  far_waits = refl;
+}
 
 pub side-ends : (s : Side) (R : Operations → Operations → Type 0) (x y : Connection)
     → OnSide x y s R → HasEndsOf x y
 side-ends s R x y h = subst (HasEndsOf x) (sym h.1) (ops-ends x s (ops_of s y))
 
-filled-ops : (q : Queues) (k : ℕ) (s : Side) (ops : Operations) (x : code.Connection)
-    → filled q k (with_ops s ops (alone 0 x)) ≡ with_ops s ops (seen q k x)
-filled-ops q k side.Ap ops x = refl
-filled-ops q k side.Far ops x = refl
+filled-ops : (k : ℕ) (s : Side) (ops : Operations) (x : code.Connection)
+    → filled k (with_ops s ops (seen 0 x)) ≡ with_ops s ops (seen k x)
+filled-ops k side.Ap ops x = refl
+filled-ops k side.Far ops x = refl
 
-pub side-changes : (live live' : Live) (ends : Ends) (q : Queues) (xs : List Connection) (k : ℕ)
+pub side-changes : (live live' : Live) (ends : Ends) (q : List End) (xs : List Connection) (k : ℕ)
     (s : Side) (x y : code.Connection) (R : Operations → Operations → Type 0)
-    → MapsAgree live ends q → all_seen q live.entries ≡ xs → get nat_eq live k ≡ Some x
+    → MapsAgree live ends q → all_seen live.entries ≡ xs → get nat_eq live k ≡ Some x
     → live'.entries ≡ set_value (nat_eq k) live.entries y
-    → OnSide (alone 0 x) (alone 0 y) s R
-    → ChangesSide xs (all_seen q live'.entries) k s R
+    → OnSide (seen 0 x) (seen 0 y) s R
+    → ChangesSide xs (all_seen live'.entries) k s R
 side-changes live live' ends q xs k s x y R kept view found now h = record {
-  connection = seen q k x;
-  after = ops_of s (alone 0 y);
-  found = finds live q xs k (Some x) view found;
-  did = subst (λ ops. R ops (ops_of s (alone 0 y))) (ops-seen q k x s) h.0;
-  rest = changes-one live live' ends q k x y (with_ops s (ops_of s (alone 0 y))) kept found now
-      (ap (filled q k) h.1 ∙ filled-ops q k s (ops_of s (alone 0 y)) x)
-      ∙ ap (at_first (numbered k) (with_ops s (ops_of s (alone 0 y)))) view;
+  connection = seen k x;
+  after = ops_of s (seen 0 y);
+  found = finds live xs k (Some x) view found;
+  did = subst (λ ops. R ops (ops_of s (seen 0 y))) (ops-seen k x s) h.0;
+  rest = changes-one live live' ends q k x y (with_ops s (ops_of s (seen 0 y))) kept found now
+      (ap (filled k) h.1 ∙ filled-ops k s (ops_of s (seen 0 y)) x)
+      ∙ ap (at_first (numbered k) (with_ops s (ops_of s (seen 0 y)))) view;
 }
 
 -- one that is put back as it was
@@ -61,13 +73,13 @@ first-same test (x ∷ xs) = by (test x) (first-same test xs)
     by true later = refl
     by false later = ap (λ ys. x ∷ ys) later
 
-pub put-back : (live live' : Live) (ends : Ends) (q : Queues) (k : ℕ) (x y : code.Connection)
+pub put-back : (live live' : Live) (ends : Ends) (q : List End) (k : ℕ) (x y : code.Connection)
     → MapsAgree live ends q → get nat_eq live k ≡ Some x
-    → live'.entries ≡ set_value (nat_eq k) live.entries y → alone 0 y ≡ alone 0 x
-    → all_seen q live'.entries ≡ all_seen q live.entries
+    → live'.entries ≡ set_value (nat_eq k) live.entries y → seen 0 y ≡ seen 0 x
+    → all_seen live'.entries ≡ all_seen live.entries
 put-back live live' ends q k x y kept found now same =
-    changes-one live live' ends q k x y (λ c. c) kept found now (ap (filled q k) same)
-    ∙ first-same (numbered k) (all_seen q live.entries)
+    changes-one live live' ends q k x y (λ c. c) kept found now (ap (filled k) same)
+    ∙ first-same (numbered k) (all_seen live.entries)
 
 same-side : (s : Side) (c : Connection) → with_ops s (ops_of s c) c ≡ c
 same-side side.Ap c = refl
@@ -78,12 +90,12 @@ abbrev IsNotOn : Option ℕ → ℕ → Side → Option Connection → Type 0
 IsNotOn number label s o =
     IsNotOf number (option_and_then (λ (c : Connection). holder_of (ops_of s c) label) o)
 
-pub matches : (live live' : Live) (ends : Ends) (q : Queues) (xs : List Connection) (k : ℕ)
+pub matches : (live live' : Live) (ends : Ends) (q : List End) (xs : List Connection) (k : ℕ)
     (s : Side) (number : Option ℕ) (label : ℕ) (r : Matched) (x y : code.Connection)
-    → MapsAgree live ends q → all_seen q live.entries ≡ xs → get nat_eq live k ≡ Some x
+    → MapsAgree live ends q → all_seen live.entries ≡ xs → get nat_eq live k ≡ Some x
     → live'.entries ≡ set_value (nat_eq k) live.entries y
-    → MatchesOn (alone 0 x) (alone 0 y) s number label r
-    → MatchesIn xs (all_seen q live'.entries) k s number label r
+    → MatchesOn (seen 0 x) (seen 0 y) s number label r
+    → MatchesIn xs (all_seen live'.entries) k s number label r
 matches live live' ends q xs k s number label (matched.Open j) x y kept view found now did =
     side-changes live live' ends q xs k s x y
     (λ v u. MatchesAs v u number label (matched.Open j)) kept view found now did
@@ -91,36 +103,36 @@ matches live live' ends q xs k s number label (matched.Late j) x y kept view fou
     side-changes live live' ends q xs k s x y
     (λ v u. MatchesAs v u number label (matched.Late j)) kept view found now did
 matches live live' ends q xs k s number label matched.Unknown x y kept view found now did = (
-  subst (IsNotOn number label s) (sym (finds live q xs k (Some x) view found))
-      (subst (λ ops. IsNotOf number (holder_of ops label)) (ops-seen q k x s) did.0.0),
+  subst (IsNotOn number label s) (sym (finds live xs k (Some x) view found))
+      (subst (λ ops. IsNotOf number (holder_of ops label)) (ops-seen k x s) did.0.0),
   put-back live live' ends q k x y kept found now
-      (did.1 ∙ ap (λ ops. with_ops s ops (alone 0 x)) did.0.1 ∙ same-side s (alone 0 x))
+      (did.1 ∙ ap (λ ops. with_ops s ops (seen 0 x)) did.0.1 ∙ same-side s (seen 0 x))
       ∙ view,
 )
 
-pub matches-none : (live : Live) (q : Queues) {ys : List Connection} (xs : List Connection) (k : ℕ)
-    (s : Side) (number : Option ℕ) (label : ℕ) → all_seen q live.entries ≡ xs
+pub matches-none : (live : Live) {ys : List Connection} (xs : List Connection) (k : ℕ)
+    (s : Side) (number : Option ℕ) (label : ℕ) → all_seen live.entries ≡ xs
     → get nat_eq live k ≡ None → ys ≡ xs → MatchesIn xs ys k s number label matched.Unknown
-matches-none live q xs k s number label view none same =
-    (subst (IsNotOn number label s) (sym (finds live q xs k None view none)) tt, same)
+matches-none live xs k s number label view none same =
+    (subst (IsNotOn number label s) (sym (finds live xs k None view none)) tt, same)
 
 -- a response goes by its number or by its identifier alone
-pub responds : (live live' : Live) (ends : Ends) (q : Queues) (xs : List Connection) (k : ℕ)
+pub responds : (live live' : Live) (ends : Ends) (q : List End) (xs : List Connection) (k : ℕ)
     (s : Side) (number label : ℕ) (r : Bool × Matched) (x y : code.Connection)
-    → MapsAgree live ends q → all_seen q live.entries ≡ xs → get nat_eq live k ≡ Some x
+    → MapsAgree live ends q → all_seen live.entries ≡ xs → get nat_eq live k ≡ Some x
     → live'.entries ≡ set_value (nat_eq k) live.entries y
-    → RespondsOn (alone 0 x) (alone 0 y) s number label r
-    → RespondsIn xs (all_seen q live'.entries) k s number label r
+    → RespondsOn (seen 0 x) (seen 0 y) s number label r
+    → RespondsIn xs (all_seen live'.entries) k s number label r
 responds live live' ends q xs k s number label r x y kept view found now did = (
-  did.0 ∙ sym (ap is_soiled (finds live q xs k (Some x) view found)),
+  did.0 ∙ sym (ap is_soiled (finds live xs k (Some x) view found)),
   matches live live' ends q xs k s (asked_of r.0 number) label r.1 x y kept view found now did.1,
 )
 
-pub responds-none : (live : Live) (q : Queues) {ys : List Connection} (xs : List Connection)
-    (k : ℕ) (s : Side) (number label : ℕ) → all_seen q live.entries ≡ xs
+pub responds-none : (live : Live) {ys : List Connection} (xs : List Connection)
+    (k : ℕ) (s : Side) (number label : ℕ) → all_seen live.entries ≡ xs
     → get nat_eq live k ≡ None → ys ≡ xs
     → RespondsIn xs ys k s number label (false, matched.Unknown)
-responds-none live q xs k s number label view none same = (
-  sym (ap is_soiled (finds live q xs k None view none)),
-  matches-none live q xs k s (asked_of false number) label view none same,
+responds-none live xs k s number label view none same = (
+  sym (ap is_soiled (finds live xs k None view none)),
+  matches-none live xs k s (asked_of false number) label view none same,
 )

@@ -1,7 +1,7 @@
--- The ends at which something waits, in their order, are those that the queues list.
+-- The ends at which something waits, in their order, are those that are marked.
 use Rattle.std.proofs.Common.{◌≡◌, ℕ, Bool, true, false, cond, ◌||◌, eqb, ◌⊎◌, inl, inr, ⊎_elim}
 use Rattle.std.proofs.Common.{Less, List, [], ◌∷◌, length, map, refl, sym, ap, ◌∙◌}
-use Rattle.std.proofs.Common.{subst}
+use Rattle.std.proofs.Common.{subst, Some, option_and_then, option_map}
 use Rattle.std.proofs.lemmas.Bool.{true≢false}
 use Rattle.std.proofs.lemmas.Map.Keys.{IsDistinct-head, IsDistinct-tail}
 use Rattle.std.specs.List.{AllByRecursion, IsDistinct}
@@ -9,17 +9,25 @@ use Rattle.std.specs.List.Sorted.{IsStrictlySortedBy}
 use Rattle.std.specs.Map.{keys_of}
 use Rattle.std.specs.Ordering.{is_eq}
 use Rattle.std.specs.Prelude.{nat_eq}
+use Rattle.indexmap.specs.IndexMap.{get}
 use Rattle.gb_base.specs.declared.end.End.{End}
 use Rattle.gb_base.specs.declared.end.End.TheVariants as end
-use Rattle.gb_bus.proofs.Earliest.{OneMore, WaitsIn, WaitsOn, before-through, has-in, in-has}
-use Rattle.gb_bus.proofs.Earliest.{not-before-self, one-end}
+use Rattle.gb_base.specs.declared.end.Side.{Side}
+use Rattle.gb_base.specs.declared.end.Side.TheVariants as side
+use Rattle.gb_bus.proofs.Earliest.{OneMore, WaitsIn, WaitsOn, before-through, has-in}
+use Rattle.gb_bus.proofs.Earliest.{in-marked, not-before-self, one-end}
 use Rattle.gb_bus.proofs.Entries.{EachEntry, NoKey, each-entry, others-behind, same-some}
-use Rattle.gb_bus.proofs.Keeping.{Queues, number-of-end, two-ends}
+use Rattle.gb_bus.proofs.Keeping.{number-of-end, two-ends}
 use Rattle.gb_bus.proofs.Overviews.{with-some}
+use Rattle.gb_bus.proofs.Placing.{own-side, places-counted}
+use Rattle.gb_bus.proofs.SeeingChanges.{finds}
+use Rattle.gb_bus.specs.Connection.{Connection}
 use Rattle.gb_bus.specs.Index.{Ends, IsEndOf, IsIndexed, MapsAgree, Live}
-use Rattle.gb_bus.specs.Parts.{is_none_left}
-use Rattle.gb_bus.specs.Seen.{all_seen, items_of, seen}
-use Rattle.gb_bus.specs.Overview.{waiting_at, waiting_before, waiting_in, with_end}
+use Rattle.gb_bus.specs.Numbered.{HasSide}
+use Rattle.gb_bus.specs.Parts.{end_at, is_none_left, queue_of}
+use Rattle.gb_bus.specs.Seen.{all_seen, seen}
+use Rattle.gb_bus.specs.Overview.{count_at, count_of, or_zero, waiting_at, waiting_before}
+use Rattle.gb_bus.specs.Overview.{waiting_in, with_end}
 use Rattle.gb_bus.specs.declared.connection.Connection as code
 use Rattle.gb_bus.specs.declared.queue.Item.{Item}
 use Rattle.gb_bus.specs.declared.overview.Waiting.{Waiting}
@@ -28,7 +36,6 @@ use Rattle.gb_machine.specs.Lists.{in_order}
 use Rattle.gb_machine.specs.Waiting.{end_before}
 use Rattle.gb_switch.proofs.Places.{cmp-own, cmp-same, settled-before}
 use Rattle.gb_switch.specs.Places.{end_cmp}
-use Rattle.gb_switch.specs.Queues.{ListsWaiting, items_at}
 use Rattle.gb_switch.specs.WaitingEnds.{is_in}
 
 -- ---- the ends of a set, in their order
@@ -195,136 +202,164 @@ end-order W at (i ∷ is) ws h never =
     (one-more W at (ends ws) h never))
 
 -- no other connection has an end of this one
-apart : (numbers : Ends) (q : Queues) (k : ℕ) (x : code.Connection)
+apart : (numbers : Ends) (k : ℕ) (x : code.Connection)
     (es : List (ℕ × code.Connection)) (a : End) → IsIndexed numbers k x → IsEndOf a x
-    → NoKey k es → EachEntry (IsIndexed numbers) es → WaitsIn (all_seen q es) a → ⊥
-apart numbers q k x [] a here own others each w = w
-apart numbers q k x (e ∷ es) a here own others each w =
+    → NoKey k es → EachEntry (IsIndexed numbers) es → WaitsIn (all_seen es) a → ⊥
+apart numbers k x [] a here own others each w = w
+apart numbers k x (e ∷ es) a here own others each w =
     ⊎_elim
     (λ v. others.0 (same-some e.0 k
     (sym (number-of-end numbers e.0 e.1 a each.0 (its v))
     ∙ number-of-end numbers k x a here own)))
-    (λ v. apart numbers q k x es a here own others.1 each.1 v)
+    (λ v. apart numbers k x es a here own others.1 each.1 v)
     w
   where
-    its : WaitsOn (seen q e.0 e.1) a → IsEndOf a e.1
+    its : WaitsOn (seen e.0 e.1) a → IsEndOf a e.1
     its v = ⊎_elim (λ p. inl p.1) (λ p. inr p.1) v.1
 
-waiting-order : (numbers : Ends) (q : Queues) (es : List (ℕ × code.Connection))
+waiting-order : (numbers : Ends) (es : List (ℕ × code.Connection))
     → IsDistinct nat_eq (keys_of es) → EachEntry (IsIndexed numbers) es
-    → InOrder (WaitsIn (all_seen q es)) (ends (waiting_in (all_seen q es)))
-waiting-order numbers q [] distinct each = λ a w. w
-waiting-order numbers q (e ∷ es) distinct each =
+    → InOrder (WaitsIn (all_seen es)) (ends (waiting_in (all_seen es)))
+waiting-order numbers [] distinct each = λ a w. w
+waiting-order numbers (e ∷ es) distinct each =
     by e.1.wired refl
-    (waiting-order numbers q es (IsDistinct-tail nat_eq e.0 (keys_of es) distinct) each.1)
+    (waiting-order numbers es (IsDistinct-tail nat_eq e.0 (keys_of es) distinct) each.1)
   where
     c : code.Connection
     c = e.1
 
     rest : End → Type 0
-    rest = WaitsIn (all_seen q es)
+    rest = WaitsIn (all_seen es)
 
     alone : (a : End) → IsEndOf a c → rest a → ⊥
     alone a own w =
-        apart numbers q e.0 c es a each.0 own
+        apart numbers e.0 c es a each.0 own
         (others-behind e.0 es (IsDistinct-head nat_eq e.0 (keys_of es) distinct)) each.1 w
 
-    by : (w : Bool) → c.wired ≡ w → InOrder rest (ends (waiting_in (all_seen q es)))
-        → InOrder (λ a. WaitsOn (seen q e.0 c) a ⊎ rest a)
-        (ends (cond w (with_end (end.Ap c.ap) (length (seen q e.0 c).to_ap)
-        (with_end c.peer (length (seen q e.0 c).to_far) (waiting_in (all_seen q es))))
-        (waiting_in (all_seen q es))))
+    by : (w : Bool) → c.wired ≡ w → InOrder rest (ends (waiting_in (all_seen es)))
+        → InOrder (λ a. WaitsOn (seen e.0 c) a ⊎ rest a)
+        (ends (cond w (with_end (end.Ap c.ap) (length (seen e.0 c).to_ap)
+        (with_end c.peer (length (seen e.0 c).to_far) (waiting_in (all_seen es))))
+        (waiting_in (all_seen es))))
     by true wired h =
         same-order
-        (OneMore (OneMore rest (is_none_left (seen q e.0 c).to_far) c.peer)
-        (is_none_left (seen q e.0 c).to_ap) (end.Ap c.ap))
-        (λ a. WaitsOn (seen q e.0 c) a ⊎ rest a)
-        (ends (with_end (end.Ap c.ap) (length (seen q e.0 c).to_ap)
-        (with_end c.peer (length (seen q e.0 c).to_far) (waiting_in (all_seen q es)))))
+        (OneMore (OneMore rest (is_none_left (seen e.0 c).to_far) c.peer)
+        (is_none_left (seen e.0 c).to_ap) (end.Ap c.ap))
+        (λ a. WaitsOn (seen e.0 c) a ⊎ rest a)
+        (ends (with_end (end.Ap c.ap) (length (seen e.0 c).to_ap)
+        (with_end c.peer (length (seen e.0 c).to_far) (waiting_in (all_seen es)))))
         (λ a v. ⊎_elim (λ p. inl (wired, inl p))
         (λ u. ⊎_elim (λ p. inl (wired, inr p)) (λ w. inr w) u) v)
         (λ a v. ⊎_elim (λ p. ⊎_elim (λ m. inl m) (λ m. inr (inl m)) p.1) (λ w. inr (inr w)) v)
-        (end-order (OneMore rest (is_none_left (seen q e.0 c).to_far) c.peer) (end.Ap c.ap)
-        (seen q e.0 c).to_ap
-        (with_end c.peer (length (seen q e.0 c).to_far) (waiting_in (all_seen q es)))
-        (end-order rest c.peer (seen q e.0 c).to_far (waiting_in (all_seen q es)) h
+        (end-order (OneMore rest (is_none_left (seen e.0 c).to_far) c.peer) (end.Ap c.ap)
+        (seen e.0 c).to_ap
+        (with_end c.peer (length (seen e.0 c).to_far) (waiting_in (all_seen es)))
+        (end-order rest c.peer (seen e.0 c).to_far (waiting_in (all_seen es)) h
         (alone c.peer (inr refl)))
         (λ w. ⊎_elim (λ p. two-ends c.ap c.peer each.0.beyond p.1)
         (alone (end.Ap c.ap) (inl refl)) w))
     by false unwired h =
-        same-order rest (λ a. WaitsOn (seen q e.0 c) a ⊎ rest a)
-        (ends (waiting_in (all_seen q es))) (λ a w. inr w)
+        same-order rest (λ a. WaitsOn (seen e.0 c) a ⊎ rest a)
+        (ends (waiting_in (all_seen es))) (λ a w. inr w)
         (λ a v. ⊎_elim (λ p. absurd (true≢false (sym p.0 ∙ unwired))) (λ w. w) v) h
 
 -- ---- how many wait
 
-abbrev IsCounted : Queues → List Waiting → Type 0
-IsCounted q ws = AllByRecursion (λ w. w ≡ waiting_at q w.at) ws
+-- each tells how many wait at its end
+abbrev IsCounted : List Connection → List Waiting → Type 0
+IsCounted xs ws = AllByRecursion (λ w. w ≡ waiting_at xs w.at) ws
 
-counted-more : (q : Queues) (w : Waiting) (ws : List Waiting) → w ≡ waiting_at q w.at
-    → IsCounted q ws → IsCounted q (in_order waiting_before w ws)
-counted-more q w [] is h = (is, tt)
-counted-more q w (v ∷ ws) is h = by (waiting_before w v) (counted-more q w ws is h.1)
+counted-more : (xs : List Connection) (w : Waiting) (ws : List Waiting) → w ≡ waiting_at xs w.at
+    → IsCounted xs ws → IsCounted xs (in_order waiting_before w ws)
+counted-more xs w [] is h = (is, tt)
+counted-more xs w (v ∷ ws) is h = by (waiting_before w v) (counted-more xs w ws is h.1)
   where
-    by : (b : Bool) → IsCounted q (in_order waiting_before w ws)
-        → IsCounted q (cond b (w ∷ v ∷ ws) (v ∷ in_order waiting_before w ws))
+    by : (b : Bool) → IsCounted xs (in_order waiting_before w ws)
+        → IsCounted xs (cond b (w ∷ v ∷ ws) (v ∷ in_order waiting_before w ws))
     by true later = (is, h)
     by false later = (h.0, later)
 
-counted-end : (q : Queues) (at : End) (n : ℕ) (ws : List Waiting)
-    → n ≡ length (items_of (items_at q at)) → IsCounted q ws → IsCounted q (with_end at n ws)
-counted-end q at n ws is h = by (eqb n 0)
+counted-end : (xs : List Connection) (at : End) (n : ℕ) (ws : List Waiting) → n ≡ count_at xs at
+    → IsCounted xs ws → IsCounted xs (with_end at n ws)
+counted-end xs at n ws is h = by (eqb n 0)
   where
     by : (b : Bool)
-        → IsCounted q (cond b ws (in_order waiting_before (record { at = at; count = n }) ws))
+        → IsCounted xs (cond b ws (in_order waiting_before (record { at = at; count = n }) ws))
     by true = h
     by false =
-        counted-more q (record { at = at; count = n }) ws
+        counted-more xs (record { at = at; count = n }) ws
         (ap (λ (m : ℕ). record { at = at; count = m }) is) h
 
-counted-in : (q : Queues) (es : List (ℕ × code.Connection))
-    → IsCounted q (waiting_in (all_seen q es))
-counted-in q [] = tt
-counted-in q (e ∷ es) = by e.1.wired refl (counted-in q es)
+-- how many wait at the ends of one connection of these
+record Counts (xs : List Connection) (x : code.Connection) : Type 0 where
+  near : length x.to_ap ≡ count_at xs (end.Ap x.ap)
+  far : length x.to_far ≡ count_at xs x.peer
+
+counted-in : (xs : List Connection) (es : List (ℕ × code.Connection))
+    → EachEntry (λ k x. x.wired ≡ true → Counts xs x) es → IsCounted xs (waiting_in (all_seen es))
+counted-in xs [] each = tt
+counted-in xs (e ∷ es) each = by e.1.wired refl (counted-in xs es each.1)
   where
     c : code.Connection
     c = e.1
 
-    waits : (w : Bool) → c.wired ≡ w → w ≡ true → (at : End)
-        → length (cond c.wired (items_of (items_at q at)) [])
-        ≡ length (items_of (items_at q at))
-    waits w is on at = ap (λ b. length (cond b (items_of (items_at q at)) [])) (is ∙ on)
-
-    by : (w : Bool) → c.wired ≡ w → IsCounted q (waiting_in (all_seen q es))
-        → IsCounted q (cond w (with_end (end.Ap c.ap) (length (seen q e.0 c).to_ap)
-        (with_end c.peer (length (seen q e.0 c).to_far) (waiting_in (all_seen q es))))
-        (waiting_in (all_seen q es)))
+    by : (w : Bool) → c.wired ≡ w → IsCounted xs (waiting_in (all_seen es))
+        → IsCounted xs (cond w (with_end (end.Ap c.ap) (length c.to_ap)
+        (with_end c.peer (length c.to_far) (waiting_in (all_seen es)))) (waiting_in (all_seen es)))
     by true wired later =
-        counted-end q (end.Ap c.ap) (length (seen q e.0 c).to_ap)
-        (with_end c.peer (length (seen q e.0 c).to_far) (waiting_in (all_seen q es)))
-        (waits true wired refl (end.Ap c.ap))
-        (counted-end q c.peer (length (seen q e.0 c).to_far) (waiting_in (all_seen q es))
-        (waits true wired refl c.peer) later)
+        let n = each.0 wired in
+        counted-end xs (end.Ap c.ap) (length c.to_ap)
+        (with_end c.peer (length c.to_far) (waiting_in (all_seen es))) n.near
+        (counted-end xs c.peer (length c.to_far) (waiting_in (all_seen es)) n.far later)
     by false unwired later = later
 
-by-ends : (q : Queues) (ws : List Waiting) → IsCounted q ws → map (waiting_at q) (ends ws) ≡ ws
-by-ends q [] h = refl
-by-ends q (w ∷ ws) h =
-    ap (λ v. v ∷ map (waiting_at q) (ends ws)) (sym h.0) ∙ ap (λ vs. w ∷ vs) (by-ends q ws h.1)
+by-ends : (xs : List Connection) (ws : List Waiting) → IsCounted xs ws
+    → map (waiting_at xs) (ends ws) ≡ ws
+by-ends xs [] h = refl
+by-ends xs (w ∷ ws) h =
+    ap (λ v. v ∷ map (waiting_at xs) (ends ws)) (sym h.0) ∙ ap (λ vs. w ∷ vs) (by-ends xs ws h.1)
 
--- ---- what the queues list
+-- how many wait at an end of a live connection that is wired
+count-side : (live : Live) (numbers : Ends) (q : List End) (k : ℕ) (x : code.Connection)
+    (s : Side) → MapsAgree live numbers q → get nat_eq live k ≡ Some x → x.wired ≡ true
+    → length (queue_of s (seen k x)) ≡ count_at (all_seen live.entries) (end_at s (seen 0 x))
+count-side live numbers q k x s kept found wired =
+    let side : HasSide live k (end_at s (seen 0 x)) s = record {
+      connection = x;
+      there = found;
+      is = own-side x s (kept.indexed k x found).beyond wired;
+    } in
+    sym (ap (λ o. or_zero (option_and_then (count_of xs) o))
+    (sym (places-counted live numbers q (end_at s (seen 0 x)) k s kept side))
+    ∙ ap (λ o. or_zero (option_map (λ c. length (queue_of s c)) o))
+    (finds live xs k (Some x) refl found))
+  where
+    xs : List Connection
+    xs = all_seen live.entries
 
-pub waiting-is : (live : Live) (numbers : Ends) (q : Queues) (es : List End)
-    → MapsAgree live numbers q → ListsWaiting (items_at q) es
-    → map (waiting_at q) es ≡ waiting_in (all_seen q live.entries)
-waiting-is live numbers q es kept lists =
-    ap (map (waiting_at q))
-    (one-order (WaitsIn (all_seen q live.entries)) es
-    (ends (waiting_in (all_seen q live.entries)))
-    (same-order (λ a. is_in es a ≡ true) (WaitsIn (all_seen q live.entries)) es
-    (λ a there. has-in live numbers q a kept (sym (lists.those a) ∙ there))
-    (λ a w. lists.those a ∙ in-has q live.entries a w)
-    (sorted-order es lists.sorted))
-    (waiting-order numbers q live.entries kept.unique
+counts : (live : Live) (numbers : Ends) (q : List End) (k : ℕ) (x : code.Connection)
+    → MapsAgree live numbers q → get nat_eq live k ≡ Some x → x.wired ≡ true
+    → Counts (all_seen live.entries) x
+counts live numbers q k x kept found wired = record {
+  near = count-side live numbers q k x side.Ap kept found wired;
+  far = count-side live numbers q k x side.Far kept found wired;
+}
+
+-- ---- what the ends that are marked tell
+
+pub waiting-is : (live : Live) (numbers : Ends) (q : List End) → MapsAgree live numbers q
+    → IsStrictlySortedBy end_cmp q
+    → map (waiting_at (all_seen live.entries)) q ≡ waiting_in (all_seen live.entries)
+waiting-is live numbers q kept sorted =
+    ap (map (waiting_at (all_seen live.entries)))
+    (one-order (WaitsIn (all_seen live.entries)) q (ends (waiting_in (all_seen live.entries)))
+    (same-order (λ a. is_in q a ≡ true) (WaitsIn (all_seen live.entries)) q
+    (λ a there. has-in live numbers q a kept there)
+    (λ a w. in-marked live numbers q a kept w)
+    (sorted-order q sorted))
+    (waiting-order numbers live.entries kept.unique
     (each-entry (IsIndexed numbers) live.entries kept.unique kept.indexed)))
-    ∙ by-ends q (waiting_in (all_seen q live.entries)) (counted-in q live.entries)
+    ∙ by-ends (all_seen live.entries) (waiting_in (all_seen live.entries))
+    (counted-in (all_seen live.entries) live.entries
+    (each-entry (λ k x. x.wired ≡ true → Counts (all_seen live.entries) x) live.entries kept.unique
+    (λ k x found wired. counts live numbers q k x kept found wired)))

@@ -1,5 +1,6 @@
--- How live connections are kept: by number, the numbers by end, and what waits by end.
-use Rattle.std.specs.Prelude.{◌≡◌, ◌≢◌, ◌⊎◌, ℕ, true, Option, Some, None, IsSome, List, nat_eq}
+-- How live connections are kept: by number, the numbers by end, and the ends where something waits.
+use Rattle.std.specs.Prelude.{◌≡◌, ◌≢◌, ◌⊎◌, ℕ, true, false, Option, Some, None, IsSome}
+use Rattle.std.specs.Prelude.{List, [], nat_eq}
 use Rattle.std.specs.HashMap as map
 use Rattle.std.specs.HashMap.{HashMap}
 use Rattle.std.specs.Ordering.{eq_by_cmp}
@@ -10,9 +11,9 @@ use Rattle.gb_base.specs.declared.end.End.{End}
 use Rattle.gb_base.specs.declared.end.End.TheVariants as end
 use Rattle.gb_bus.specs.Ends.{is_far}
 use Rattle.gb_bus.specs.declared.connection.Connection as code
-use Rattle.gb_bus.specs.declared.queue.Item.{Item}
 use Rattle.gb_switch.specs.Places.{end_cmp}
-use Rattle.gb_switch.specs.Queues.{Appends, items_at}
+use Rattle.gb_switch.specs.Queues.{has_items}
+use Rattle.gb_switch.specs.WaitingEnds.{is_in}
 
 -- the live connections by number
 abbrev pub Live : Type 0
@@ -61,31 +62,29 @@ pub record HasEnd (live : Live) (k : ℕ) (at : End) : Type 0 where
   pub there : get nat_eq live k ≡ Some connection
   pub own : IsEndOf at connection
 
--- an end is one of a live connection that is wired
-pub record IsOwned (live : Live) (at : End) : Type 0 where
-  pub number : ℕ
-  pub connection : code.Connection
-  pub there : get nat_eq live number ≡ Some connection
-  pub wired : connection.wired ≡ true
-  pub own : IsEndOf at connection
+-- nothing waits at the ends of a connection
+abbrev pub IsIdle : code.Connection → Type 0
+IsIdle x = (x.to_ap ≡ []) × (x.to_far ≡ [])
 
--- there is a queue at each end of a connection
-pub record HasQueues (queues : List (End × List Item)) (x : code.Connection) : Type 0 where
-  pub near : IsSome (items_at queues (end.Ap x.ap))
-  pub far : IsSome (items_at queues x.peer)
+-- An end of a connection is marked where something waits there. Nothing does where it isn't wired.
+pub record IsMarked (waiting : List End) (x : code.Connection) : Type 0 where
+  pub near : is_in waiting (end.Ap x.ap) ≡ has_items x.to_ap
+  pub far : is_in waiting x.peer ≡ has_items x.to_far
+  pub idle : x.wired ≡ false → IsIdle x
 
--- The ends that have numbers are those of one live connection each, and those that have queues are
--- the ends of wired ones.
-pub record MapsAgree (live : Live) (ends : Ends)
-    (queues : List (End × List Item)) : Type 0 where
+-- The ends that have numbers are those of one live connection each. An end of one is marked where
+-- something waits there, and no others are.
+pub record MapsAgree (live : Live) (ends : Ends) (waiting : List End) : Type 0 where
   pub unique : IsUnique nat_eq live
   pub indexed : (k : ℕ) (x : code.Connection) → get nat_eq live k ≡ Some x → IsIndexed ends k x
   pub numbered : (at : End) (k : ℕ) → number_at ends at ≡ Some k → HasEnd live k at
-  pub owned : (at : End) (items : List Item) → items_at queues at ≡ Some items → IsOwned live at
-  pub queued : (k : ℕ) (x : code.Connection) → get nat_eq live k ≡ Some x → x.wired ≡ true
-      → HasQueues queues x
+  pub marked : (k : ℕ) (x : code.Connection) → get nat_eq live k ≡ Some x → IsMarked waiting x
+  pub owned : (at : End) → is_in waiting at ≡ true → IsSome (number_at ends at)
 
--- a message waits behind those at an end, or is lost where there is no end
-abbrev pub AddsAt : Option End → Item → List (End × List Item) → List (End × List Item) → Type 0
-AddsAt None item old new = new ≡ old
-AddsAt (Some at) item old new = Appends (items_at old) (items_at new) at item
+-- A connection changes, but not its ends, which are marked as before where something waits there.
+-- No other end is marked or unmarked.
+pub record Remarks (old new : List End) (x y : code.Connection) : Type 0 where
+  pub near : y.ap ≡ x.ap
+  pub far : y.peer ≡ x.peer
+  pub own : IsMarked new y
+  pub others : (at : End) → (IsEndOf at x → ⊥) → is_in new at ≡ is_in old at

@@ -7,7 +7,7 @@ use Rattle.gb_base.specs.declared.end.End.{End}
 use Rattle.gb_base.specs.declared.end.Side.{Side}
 use Rattle.gb_bus.specs.Index.{Live}
 use Rattle.gb_bus.specs.Parts.{side_at}
-use Rattle.gb_bus.specs.Seen.{alone}
+use Rattle.gb_bus.specs.Seen.{seen}
 use Rattle.gb_bus.specs.contracts.connection.Connection as connection
 use Rattle.gb_bus.specs.contracts.numbered.Numbered as numbered
 use Rattle.gb_bus.specs.declared.connection.Connection as code
@@ -28,7 +28,7 @@ IsPlaced live k None = get nat_eq live k ≡ None
 pub record HasSide (live : Live) (k : ℕ) (at : End) (side : Side) : Type 0 where
   pub connection : code.Connection
   pub there : get nat_eq live k ≡ Some connection
-  pub is : side_at at (alone 0 connection) ≡ Some side
+  pub is : side_at at (seen 0 connection) ≡ Some side
 
 -- The connection with a number is the one that is left behind a reference, and no other changes.
 abbrev pub LendsAt : MutBor Numbered → ℕ → Option (MutBor code.Connection) → Fml

@@ -1,16 +1,16 @@
 -- What a bus tells of its connections and of what waits.
-use Rattle.std.specs.Prelude.{ℕ, ◌==◌, Bool, if◌then◌else◌, List, [], ◌∷◌, length}
+use Rattle.std.specs.Prelude.{ℕ, ◌==◌, Bool, Option, Some, None, option_and_then, option_map, find}
+use Rattle.std.specs.Prelude.{if◌then◌else◌, List, [], ◌∷◌, length}
 use Rattle.gb_base.specs.declared.end.End.{End}
 use Rattle.gb_base.specs.declared.end.End.TheVariants as end
+use Rattle.gb_base.specs.declared.end.Side.{Side}
 use Rattle.gb_bus.specs.Connection.{Connection}
-use Rattle.gb_bus.specs.Seen.{items_of}
-use Rattle.gb_bus.specs.declared.queue.Item.{Item}
+use Rattle.gb_bus.specs.Parts.{numbered, place_at, queue_of}
 use Rattle.gb_bus.specs.declared.overview.Known.{Known}
 use Rattle.gb_bus.specs.declared.overview.Waiting.{Waiting}
 use Rattle.gb_machine.specs.Bus as machine
 use Rattle.gb_machine.specs.Lists.{in_order}
 use Rattle.gb_machine.specs.Waiting.{Queue, end_before}
-use Rattle.gb_switch.specs.Queues.{items_at}
 
 -- ---- connections
 
@@ -61,6 +61,18 @@ abbrev pub waiting_in : List Connection → List Waiting
 waiting_in [] = []
 waiting_in (x ∷ xs) = with_ends x (waiting_in xs)
 
--- what waits at an end
-abbrev pub waiting_at : List (End × List Item) → End → Waiting
-waiting_at queues at = record { at = at; count = length (items_of (items_at queues at)) }
+abbrev pub or_zero : Option ℕ → ℕ
+or_zero None = 0
+or_zero (Some n) = n
+
+-- how many messages wait toward a side of the connection with a number
+abbrev pub count_of : List Connection → ℕ × Side → Option ℕ
+count_of xs p = option_map (λ x. length (queue_of p.1 x)) (find (numbered p.0) xs)
+
+-- how many wait at an end, none where no wired connection names it
+abbrev pub count_at : List Connection → End → ℕ
+count_at xs at = or_zero (option_and_then (count_of xs) (place_at at xs))
+
+-- what is told of an end at which something waits
+abbrev pub waiting_at : List Connection → End → Waiting
+waiting_at xs at = record { at = at; count = count_at xs at }

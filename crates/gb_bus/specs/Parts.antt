@@ -49,7 +49,11 @@ closed c = record c { shut = true; ap_ops = emptied c.ap_ops }
 abbrev pub soiled : Connection → Connection
 soiled c = record c { clean = false }
 
--- it isn't wired, nothing waits, and all identifiers of the far side are free
+-- nothing waits at its ends
+abbrev pub idled : Connection → Connection
+idled c = record c { to_ap = []; to_far = [] }
+
+-- nor is it wired, and all identifiers of the far side are free
 abbrev pub cleared : Connection → Connection
 cleared c = record c { wired = false; to_ap = []; to_far = []; far_ops = emptied c.far_ops }
 
@@ -156,16 +160,17 @@ is_unclean k cs = is_soiled (find (numbered k) cs)
 abbrev pub front_in : ℕ → Side → List Connection → Option Item
 front_in k at cs = option_and_then (λ c. first (queue_of at c)) (find (numbered k) cs)
 
--- the front message toward a side of a connection was taken, where there is one
+-- the front message toward a side of one connection was taken, where there is one
+abbrev pub TakesFront : Connection → Connection → Side → Option Item → Type 0
+TakesFront old new at None = (first (queue_of at old) ≡ None) × (new ≡ old)
+TakesFront old new at (Some item) =
+    (first (queue_of at old) ≡ Some item) × (new ≡ without_front at old)
+
+-- so it was on the connection with a number
 abbrev pub TakesFrontAs : List Connection → List Connection → ℕ → Side → Option Item → Type 0
 TakesFrontAs old new k at None = (front_in k at old ≡ None) × (new ≡ old)
 TakesFrontAs old new k at (Some item) =
     (front_in k at old ≡ Some item) × (new ≡ at_first (numbered k) (without_front at) old)
-
--- the same by the end, where a wired connection names it
-abbrev pub PopsAs : List Connection → List Connection → End → Option Item → Type 0
-PopsAs old new at result =
-    (k : ℕ) (s : Side) → place_at at old ≡ Some (k, s) → TakesFrontAs old new k s result
 
 -- whether a connection is there and wired
 abbrev pub is_wired : Option Connection → Bool

@@ -2,9 +2,8 @@
 use Rattle.std.specs.Prelude.{◌≡◌, ◌⊎◌, ℕ, ◌==◌, Bool, true, false, not, Option, Some, None}
 use Rattle.std.specs.Prelude.{if◌then◌else◌, is_some, option_and_then, Result, Ok, Err, List, ⊤}
 use Rattle.std.specs.Prelude.{find}
-use Rattle.gb_base.specs.declared.end.End.{End}
 use Rattle.gb_base.specs.declared.end.Side.{Side}
-use Rattle.gb_bus.specs.Parts.{end_at, is_unclean, next_in, numbered, ops_of, put, with_ops}
+use Rattle.gb_bus.specs.Parts.{is_unclean, next_in, numbered, ops_of, put, with_ops}
 use Rattle.gb_bus.specs.Connection.{Connection}
 use Rattle.gb_bus.specs.declared.answers.SendFault.{SendFault}
 use Rattle.gb_bus.specs.declared.answers.SendFault.TheVariants as send
@@ -70,22 +69,13 @@ LabelsOn old new at n deadline false (Err send.NoLabel) =
 LabelsOn old new at n deadline false (Err send.NoConnection) = ⊥
 LabelsOn old new at n deadline false (Err (send.Memory m)) = ⊤
 
--- the end at a side of a connection that is wired
-abbrev pub toward : Side → Connection → Option End
-toward at c = if c.wired then Some (end_at at c) else None
-
--- the identifier, and the end toward which the request goes
-abbrev pub AsksOn : Connection → Connection → Side → ℕ → ℕ → Bool
-    → Result (ℕ × Option End) SendFault → Type 0
-AsksOn old new at n deadline oneway (Ok a) =
-    LabelsOn old new at n deadline oneway (Ok a.0) × (a.1 ≡ toward (other_side at) new)
-AsksOn old new at n deadline oneway (Err e) = LabelsOn old new at n deadline oneway (Err e)
-
--- a connection has the ends of one, and is wired where that is
+-- a connection has the ends of one, is wired where that is, and the same waits there
 pub record HasEndsOf (old new : Connection) : Type 0 where
   pub near : new.ap ≡ old.ap
   pub far : new.peer ≡ old.peer
   pub wire : new.wired ≡ old.wired
+  pub near_waits : new.to_ap ≡ old.to_ap
+  pub far_waits : new.to_far ≡ old.to_far
 
 abbrev pub MatchesOn : Connection → Connection → Side → Option ℕ → ℕ → Matched → Type 0
 MatchesOn old new at number label m = OnSide old new at (λ x y. MatchesAs x y number label m)

@@ -26,13 +26,14 @@ ghost use Rattle.gb_bus.specs.Parts.{
 };
 
 use crate::connection::{Connection, Draft};
+use crate::ends::other_side;
 use crate::numbered::Numbered;
-use crate::queue::{Item, add, add_or_lose, ask_item};
+use crate::queue::{Item, ask_item};
 use crate::{SendFault, end_numbers};
 use gb_base::{End, OutOfMemory, Side};
 use gb_ops::Matched;
 use gb_payload::protocols::SVC;
-use gb_switch::{Place, Queues};
+use gb_switch::{Place, Waiting};
 use indexmap::IndexMap;
 use std::alloc::Global;
 use std::collections::HashMap;
@@ -45,8 +46,8 @@ pub struct Connections {
     pub(crate) live: Numbered,
     /// The number of the one that has an end.
     pub(crate) ends: HashMap<Place, u64>,
-    /// What waits at the ends of those that are wired.
-    pub(crate) queues: Queues<Item>,
+    /// The ends where something waits.
+    pub(crate) waiting: Waiting,
 }
 
 impl Model for Connections {
@@ -58,13 +59,13 @@ impl Model for Connections {
     ghost use Rattle.gb_bus.specs.Index.{MapsAgree};
     ghost use Rattle.gb_bus.specs.Seen.{all_seen};
 
-    ghost view = { λ c. all_seen c.queues c.live.map.entries };
+    ghost view = { λ c. all_seen c.live.map.entries };
 
-    ghost invariant = { λ c. MapsAgree c.live.map c.ends c.queues };
+    ghost invariant = { λ c. MapsAgree c.live.map c.ends c.waiting };
 }
 
 impl Connections {
-    ghost use Rattle.gb_bus.specs.Parts.{PopsAs};
+    ghost use Rattle.gb_bus.specs.Parts.{TakesFrontAs};
     ghost use Rattle.gb_bus.specs.Sides.{AsksIn, GivesUpIn, MatchesIn, RespondsIn};
 
     /// The connection of the supervisory controller alone, open for ever.
@@ -73,7 +74,7 @@ impl Connections {
     {
         let mut connections = Connections::none(alloc);
         connections.add(alloc, 1, 0, End::Svc, SVC)?;
-        connections.wire(1)?;
+        connections.wire(1);
         Ok(connections)
     }
 
@@ -86,7 +87,7 @@ impl Connections {
                 map: IndexMap::new(alloc),
             },
             ends: HashMap::new(alloc),
-            queues: Queues::new(alloc),
+            waiting: Waiting::new(alloc),
         }
     }
 
@@ -120,19 +121,14 @@ impl Connections {
         }
     }
 
-    /// A connection is wired, and nothing waits at its ends. After want of memory nothing is said.
-    pub fn wire(&mut self, k: u64) -> Result<(), OutOfMemory>
-        ensures { OnOk result (self.new ≡ at_first (numbered k) with_wire self.old) }
+    /// A connection is wired.
+    pub fn wire(&mut self, k: u64)
+        ensures { self.new ≡ at_first (numbered k) with_wire self.old }
     {
         let Some(connection) = self.live.get_mut(k) else {
-            return Ok(());
+            return;
         };
-        if connection.wired {
-            return Ok(());
-        }
-        self.queues.create(End::Ap(connection.ap), connection.peer)?;
         connection.wire();
-        Ok(())
     }
 
     /// A connection isn't wired any more, what waited in its queues is lost, and all identifiers of
@@ -143,8 +139,7 @@ impl Connections {
         let Some(connection) = self.live.get_mut(k) else {
             return;
         };
-        self.queues.destroy(End::Ap(connection.ap), connection.peer);
-        connection.clear();
+        connection.clear(&mut self.waiting);
     }
 
     /// The application processor's side of a connection is closed, and all its
@@ -172,12 +167,11 @@ impl Connections {
     pub fn remove(&mut self, k: u64)
         ensures { self.new ≡ without (numbered k) self.old }
     {
-        let Some(connection) = self.live.map.shift_remove(&k) else {
+        let Some(mut connection) = self.live.map.shift_remove(&k) else {
             return;
         };
-        let near = End::Ap(connection.ap);
-        end_numbers::unset(&mut self.ends, near, connection.peer);
-        self.queues.destroy(near, connection.peer);
+        end_numbers::unset(&mut self.ends, End::Ap(connection.ap), connection.peer);
+        connection.lose(&mut self.waiting);
         drop(connection);
     }
 
@@ -198,12 +192,12 @@ impl Connections {
         let Some(connection) = self.live.get_mut(k) else {
             return Err(SendFault::NoConnection);
         };
-        let (label, end) = connection.ask(draft)?;
-        let Some(end) = end else {
+        let label = connection.label_for(draft)?;
+        if !connection.wired {
             return Ok((label, true));
-        };
+        }
         let item = ask_item(alloc, draft, label)?;
-        add(&mut self.queues, end, item)?;
+        connection.push(other_side(draft.side), item, &mut self.waiting)?;
         Ok((label, false))
     }
 
@@ -250,18 +244,20 @@ impl Connections {
     pub fn push(&mut self, k: u64, side: Side, item: Item) -> Result<(), OutOfMemory>
         ensures { OnOk result (self.new ≡ at_first (numbered k) (put side item) self.old) }
     {
-        let Some(connection) = self.live.get(k) else {
+        let Some(connection) = self.live.get_mut(k) else {
+            drop(item);
             return Ok(());
         };
-        add_or_lose(&mut self.queues, connection.toward(side), item)?;
+        connection.push(side, item, &mut self.waiting)?;
         Ok(())
     }
 
-    /// Takes the front message toward an end that a wired connection names.
-    #[inline]
-    pub fn pop(&mut self, at: End) -> Option<Item>
-        ensures { PopsAs self.old self.new at result }
+    /// Takes the front message toward a side of a connection.
+    #[inline(always)]
+    pub fn pop(&mut self, k: u64, side: Side) -> Option<Item>
+        ensures { TakesFrontAs self.old self.new k side result }
     {
-        self.queues.pop(at)
+        let connection = self.live.get_mut(k)?;
+        connection.pop(side, &mut self.waiting)
     }
 }

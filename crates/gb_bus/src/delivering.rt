@@ -45,7 +45,7 @@ impl Bus {
         let Some((connection, side)) = self.connections.place(at) else {
             return Err(DeliverFault::NoConnection);
         };
-        let Some(item) = self.connections.pop(at) else {
+        let Some(item) = self.connections.pop(connection, side) else {
             return Err(DeliverFault::QueueEmpty);
         };
         let item = self.handled(connection, side, item, takes)?;

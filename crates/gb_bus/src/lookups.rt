@@ -13,7 +13,7 @@ ghost use Rattle.std.specs.Prelude.{
 };
 ghost use Rattle.std.specs.List.{filter, list_any};
 ghost use Rattle.gb_bus.specs.Ends.{is_far};
-ghost use Rattle.gb_bus.specs.Overview.{known_as, waiting_in};
+ghost use Rattle.gb_bus.specs.Overview.{count_at, known_as, waiting_in};
 ghost use Rattle.gb_bus.specs.Parts.{
   earliest_in,
   ends_in,
@@ -28,7 +28,6 @@ ghost use Rattle.gb_bus.specs.Parts.{
 };
 
 use crate::connections::Connections;
-use crate::queue::{count, count_all};
 use crate::{Known, Waiting};
 use gb_base::{End, Numbers, OutOfMemory, Sequence, Side};
 use gb_ops::Ops;
@@ -93,7 +92,7 @@ impl Connections {
             ≡ option_map (λ c. length (queue_of side c)) (find (numbered k) self.now) }
     {
         let connection = self.live.get(k)?;
-        Some(count(&self.queues, connection, side))
+        Some(connection.count(side))
     }
 
     /// The number of the connection of a CPort of the application processor with a module's.
@@ -152,7 +151,8 @@ impl Connections {
     pub fn first(&self) -> Option<End>
         ensures { result ≡ earliest_in self.now }
     {
-        self.queues.first()
+        let place = self.waiting.first()?;
+        Some(place.end())
     }
 
     /// What is told of each, in order.
@@ -170,8 +170,27 @@ impl Connections {
     pub fn waiting(&self, alloc: Global) -> Result<Sequence<Waiting>, OutOfMemory>
         ensures { IfOk result (λ ws. ws ≡ waiting_in self.now) }
     {
-        let ends = self.queues.waiting()?;
-        let waiting = count_all(&self.queues, alloc, ends.items())?;
+        let ends = self.waiting.ends(alloc)?;
+        let mut waiting = Sequence::new(alloc);
+        for at in ends.items() {
+            waiting.push(Waiting {
+                at: *at,
+                count: self.count_at(*at),
+            })?;
+        }
         Ok(waiting)
+    }
+
+    /// How many messages wait at an end: none where no wired connection names it.
+    fn count_at(&self, at: End) -> u64
+        ensures { result ≡ count_at self.now at }
+    {
+        let Some((k, side)) = self.place(at) else {
+            return 0;
+        };
+        match self.count(k, side) {
+            Some(count) => count,
+            None => 0,
+        }
     }
 }

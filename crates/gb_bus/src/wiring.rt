@@ -67,13 +67,12 @@ impl Bus {
         Ok(number)
     }
 
-    /// A connection is wired. After want of memory nothing is said.
-    pub fn wire(&mut self, k: u64) -> Result<(), OutOfMemory>
-        ensures step { OnOk result ((around : Around) (b : machine.Bus) → Stands around self.old b
-            → Stands around self.new (wired k b)) }
+    /// A connection is wired.
+    pub fn wire(&mut self, k: u64)
+        ensures step { (around : Around) (b : machine.Bus) → Stands around self.old b
+            → Stands around self.new (wired k b) }
     {
-        self.connections.wire(k)?;
-        Ok(())
+        self.connections.wire(k);
     }
 
     /// A connection isn't wired any more: what waited in its queues is lost, and what was taken

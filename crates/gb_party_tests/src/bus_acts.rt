@@ -197,7 +197,7 @@ fn shuts(rt: &impl Abort, alloc: Global, bus: &mut Bus, k: u64) -> Seen {
 }
 
 fn wires(rt: &impl Abort, bus: &mut Bus, k: u64) -> Seen {
-    bus.wire(k).expect(rt, "memory");
+    bus.wire(k);
     Seen::Done
 }
 
@@ -251,7 +251,7 @@ pub fn attaches(rt: &impl Abort, bus: &mut Bus, ap: u16, intf: u8, cport: u16, w
     match bus.attach(ap, intf, cport, 2) {
         Ok(k) => {
             assert_eq!(rt; k, want);
-            bus.wire(k).expect(rt, "memory");
+            bus.wire(k);
         }
         Err(_) => assert!(rt; false),
     }

@@ -1,8 +1,7 @@
 //! Rows of the power sequence, whose expected values are those of its table, and of queues.
 
 use gb_base::End;
-use gb_switch::{Ladder, NotReady, NotRouted, Queues, Rung};
-use std::alloc::Global;
+use gb_switch::{Ladder, NotReady, NotRouted, Place, Queue, Rung, Waiting};
 use std::process::Abort;
 
 const DONE: Result<(), NotReady> = Ok(());
@@ -141,62 +140,45 @@ const NEAR: End = End::Module { intf: 2, cport: 1 };
 /// CPort 1 of interface 3.
 const FAR: End = End::Module { intf: 3, cport: 1 };
 
-/// Two ends that have no queue get one each.
-fn join(rt: &impl Abort, queues: &mut Queues<u8>, a: End, b: End) {
-    assert!(rt; queues.len(a).is_none());
-    assert!(rt; queues.len(b).is_none());
-    queues.create(a, b).expect(rt, "memory");
+#[test]
+fn items_leave_in_the_order_in_which_they_came(rt: HostRuntime) {
+    let (mut queue, mut waiting) = (Queue::new(rt.alloc()), Waiting::new(rt.alloc()));
+    let at = Place::of(NEAR);
+    for item in [5u8, 7, 5].iter() {
+        queue.push(*item, at, &mut waiting).expect(&rt, "memory");
+    }
+    assert!(&rt; queue.len() == 3);
+    for item in [5u8, 7, 5].iter() {
+        assert!(&rt; waiting.first() == Some(at), "it is marked while one waits");
+        assert!(&rt; queue.pop(at, &mut waiting) == Some(*item));
+    }
+    assert!(&rt; queue.pop(at, &mut waiting) == None);
+    assert!(&rt; waiting.first() == None, "it isn't marked any more");
 }
 
-/// The queues of three connections, in which nothing waits.
-fn three_connections(rt: &impl Abort, alloc: Global) -> Queues<u8> {
-    let mut queues = Queues::new(alloc);
-    join(rt, &mut queues, End::Ap(0), End::Svc);
-    join(rt, &mut queues, End::Ap(7), FAR);
-    join(rt, &mut queues, End::Ap(300), NEAR);
-    queues
-}
-
-/// An item comes to each of these ends.
-fn fill(rt: &impl Abort, queues: &mut Queues<u8>, ends: &[End]) {
+/// Something waits at these ends.
+fn mark(rt: &impl Abort, waiting: &mut Waiting, ends: &[End]) {
     for at in ends.iter() {
-        assert!(rt; queues.len(*at).is_some());
-        queues.push(*at, 5).expect(rt, "memory");
+        waiting.add(Place::of(*at)).expect(rt, "memory");
     }
 }
 
-/// These are the ends where an item waits, in order.
-fn waits(rt: &impl Abort, queues: &Queues<u8>, order: &[End]) {
-    let ends = queues.waiting().expect(rt, "memory");
-    assert!(rt; ends.items() == order);
-}
-
-/// These are the ends where an item waits, in order, and each has no more than that.
-fn empties(rt: &impl Abort, queues: &mut Queues<u8>, order: &[End]) {
+/// These are the ends where something waits, in order, and there are no more than that.
+fn unmark(rt: &impl Abort, waiting: &mut Waiting, order: &[End]) {
     for at in order.iter() {
-        assert!(rt; queues.first() == Some(*at));
-        assert!(rt; queues.len(*at) == Some(1));
-        assert!(rt; queues.pop(*at) == Some(5));
+        assert!(rt; waiting.first() == Some(Place::of(*at)));
+        waiting.remove(Place::of(*at));
     }
-    assert!(rt; queues.first() == None);
+    assert!(rt; waiting.first() == None);
 }
 
 #[test]
 fn ends_are_settled_in_order(rt: HostRuntime) {
-    let mut queues = three_connections(&rt, rt.alloc());
+    let mut waiting = Waiting::new(rt.alloc());
     let ends = [FAR, End::Ap(300), NEAR, End::Ap(7), End::Svc, End::Ap(0)];
-    fill(&rt, &mut queues, &ends);
+    mark(&rt, &mut waiting, &ends);
     let order = [End::Svc, End::Ap(0), End::Ap(7), End::Ap(300), NEAR, FAR];
-    waits(&rt, &queues, &order);
-    empties(&rt, &mut queues, &order);
-}
-
-#[test]
-fn a_queue_is_gone_with_its_items(rt: HostRuntime) {
-    let mut queues = three_connections(&rt, rt.alloc());
-    fill(&rt, &mut queues, &[NEAR, NEAR, FAR]);
-    queues.destroy(End::Ap(300), NEAR);
-    assert!(rt; queues.len(NEAR) == None);
-    assert!(rt; queues.pop(NEAR) == None);
-    empties(&rt, &mut queues, &[FAR]);
+    let listed = waiting.ends(rt.alloc()).expect(&rt, "memory");
+    assert!(&rt; listed.items() == order);
+    unmark(&rt, &mut waiting, &order);
 }

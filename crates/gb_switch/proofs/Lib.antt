@@ -1,6 +1,5 @@
 pub mod Climbs
 pub mod Ladders
-pub mod Lines
 pub mod Others
 pub mod Places
 pub mod Ports

@@ -1,6 +1,7 @@
 -- The order of ends is that in which queues are settled, and tells all ends apart.
 use Rattle.std.proofs.Common.{◌≡◌, ◌≢◌, ℕ, Bool, true, false, nat_lt, ◌==◌, ◌&&◌, ◌||◌, refl, ap}
-use Rattle.std.proofs.Common.{arith, Equal, rules}
+use Rattle.std.proofs.Common.{arith, Equal, rules, ◌⊎◌, inl, inr, sym, ◌∙◌}
+use Rattle.std.proofs.lemmas.Bool.{true≢false}
 use Rattle.std.proofs.lemmas.Bool.Decides.{nat_tests}
 use Rattle.std.proofs.lemmas.Cmp.{tied_itself}
 use Rattle.std.specs.Ordering.{is_eq, is_gt, nat_cmp, ordering_then}
@@ -57,3 +58,13 @@ settled-before (end.Ap a) (end.Module j d) e = refl
 settled-before (end.Module i c) end.Svc e = absurd (cc e)
 settled-before (end.Module i c) (end.Ap b) e = absurd (cc e)
 settled-before (end.Module i c) (end.Module j d) e = pair-greater i c j d e
+
+-- two ends are one, or apart
+pub is-end : (a b : End) → (a ≡ b) ⊎ (a ≢ b)
+is-end a b = by (is_eq (end_cmp a b)) refl
+  where
+    by : (t : Bool) → is_eq (end_cmp a b) ≡ t → (a ≡ b) ⊎ (a ≢ b)
+    by true e = inl (cmp-same a b e)
+    by false e =
+        inr (λ same. true≢false
+        (sym (cmp-own a) ∙ ap (λ r. is_eq (end_cmp a r)) same ∙ e))

@@ -1,6 +1,5 @@
 pub mod Climbing
 pub mod Levels
-pub mod Lines
 pub mod Places
 pub mod Queues
 pub mod Stands

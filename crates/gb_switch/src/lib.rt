@@ -5,11 +5,12 @@
 mod ladder;
 mod place;
 mod port;
-mod queues;
+mod queue;
 mod rung;
 mod waiting;
 
 pub use ladder::Ladder;
 pub use place::Place;
-pub use queues::{Queues, Unpushed};
+pub use queue::Queue;
 pub use rung::{NotReady, NotRouted, Rung};
+pub use waiting::Waiting;

@@ -81,7 +81,7 @@ impl Parties {
     {
         match behind {
             Behind::Nothing => {}
-            Behind::Wire { connection } => self.bus.wire(connection)?,
+            Behind::Wire { connection } => self.bus.wire(connection),
             Behind::Unwire { connection } => self.sever(connection, told)?,
         }
         Ok(())

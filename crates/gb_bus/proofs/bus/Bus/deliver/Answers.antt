@@ -12,22 +12,19 @@ returns-in_default-clause-step c = λ around b s.
 
 pub returns-in_default-pop-clause-step : goal.returns-in_default-pop-clause-step
 returns-in_default-pop-clause-step c = λ around b s.
-    let none =
-    c.in_default-pop.ensures c.in-Some.connection c.in-Some.side (sym c.in-Some.ensures) in
+    let none = c.in_default-pop.ensures in
     delivers_nothing around c.args.self.now _ b c.args.at c.in-Some.connection c.in-Some.side s
     (sym c.in-Some.ensures)
     none.0 (ap (λ cs. record c.args.self.now { connections = cs }) none.1)
 
 pub returns-in_default-pop-clause-still : goal.returns-in_default-pop-clause-still
 returns-in_default-pop-clause-still c = λ e.
-    let none =
-    c.in_default-pop.ensures c.in-Some.connection c.in-Some.side (sym c.in-Some.ensures) in
+    let none = c.in_default-pop.ensures in
     ap (λ cs. record c.args.self.now { connections = cs }) none.1
 
 pub returns-in_err-item-clause-few : goal.returns-in_err-item-clause-few
 returns-in_err-item-clause-few c = λ few.
-    let front =
-    c.in-Some-pop.ensures c.in-Some.connection c.in-Some.side (sym c.in-Some.ensures) in
+    let front = c.in-Some-pop.ensures in
     let there : front_at c.args.at c.args.self.now.connections ≡ Some c.in-Some-pop.item =
     ap (option_and_then (λ p. front_in p.0 p.1 c.args.self.now.connections)) (sym c.in-Some.ensures)
     ∙ front.0 in
@@ -37,8 +34,7 @@ returns-in_err-item-clause-few c = λ few.
 
 pub returns-clause-step : goal.returns-clause-step
 returns-clause-step c = λ around b s.
-    let front =
-    c.in-Some-pop.ensures c.in-Some.connection c.in-Some.side (sym c.in-Some.ensures) in
+    let front = c.in-Some-pop.ensures in
     delivers around c.args.self.now _ c.handled.new.self b c.args.at c.args.takes
     c.in-Some.connection c.in-Some.side
     c.in-Some-pop.item c.in_ok-item.item s (sym c.in-Some.ensures) front.0

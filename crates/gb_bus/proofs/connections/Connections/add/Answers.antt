@@ -12,19 +12,19 @@ use Rattle.gb_bus.proofs.connections.Connections.add.Goals as goal
 
 pub set-requires-clause-near : goal.set-requires-clause-near
 set-requires-clause-near c =
-    (are-free c.self.inside.live.map c.self.inside.ends c.self.inside.queues c.args.self.now
+    (are-free c.self.inside.live.map c.self.inside.ends c.self.inside.waiting c.args.self.now
     c.args.number c.args.ap c.args.peer c.self.invariant c.self.view_is c.requires.far
     c.requires.free).near
 
 pub set-requires-clause-far : goal.set-requires-clause-far
 set-requires-clause-far c =
-    (are-free c.self.inside.live.map c.self.inside.ends c.self.inside.queues c.args.self.now
+    (are-free c.self.inside.live.map c.self.inside.ends c.self.inside.waiting c.args.self.now
     c.args.number c.args.ap c.args.peer c.self.invariant c.self.view_is c.requires.far
     c.requires.free).far
 
 pub invariant_of-self : goal.invariant_of-self
 invariant_of-self c =
-    kept-numbers c.self.inside.live.map c.self.inside.ends c.set.new.ends c.self.inside.queues
+    kept-numbers c.self.inside.live.map c.self.inside.ends c.set.new.ends c.self.inside.waiting
     c.in_err-set.ensures.unchanged c.self.invariant
 
 pub invariant_of-self-in-Ok : goal.invariant_of-self-in-Ok
@@ -33,34 +33,35 @@ invariant_of-self-in-Ok c =
     let is = c.in_ok-connection.ensures in
     let near = ap (λ (y : Connection). y.ap) is in
     let far = ap (λ (y : Connection). y.peer) is in
-    let free = are-free c.self.inside.live.map c.self.inside.ends c.self.inside.queues
+    let free = are-free c.self.inside.live.map c.self.inside.ends c.self.inside.waiting
     c.args.self.now c.args.number c.args.ap c.args.peer c.self.invariant c.self.view_is
     c.requires.far c.requires.free in
     kept-added c.self.inside.live.map c.insert.new.self c.self.inside.ends c.set.new.ends
-    c.self.inside.queues c.args.number x free.number c.in-Ok.ensures.updates.0
+    c.self.inside.waiting c.args.number x free.number c.in-Ok.ensures.updates.0
     c.in-Ok.ensures.unique
     (subst (λ e. GetsNumber c.self.inside.ends c.set.new.ends e x.peer c.args.number)
     (ap end.Ap (sym near))
     (subst
     (λ e. GetsNumber c.self.inside.ends c.set.new.ends (end.Ap c.args.ap) e c.args.number)
     (sym far) c.in_ok-set.ensures.set))
-    (ap is_far far ∙ c.requires.far) (ap (λ (y : Connection). y.wired) is) c.self.invariant
+    (ap is_far far ∙ c.requires.far)
+    (ap (λ (y : Connection). y.to_ap) is, ap (λ (y : Connection). y.to_far) is) c.self.invariant
 
 pub invariant_of-self-in-Err : goal.invariant_of-self-in-Err
 invariant_of-self-in-Err c =
-    kept-same c.self.inside.live.map c.insert.new.self c.unset.new.ends c.self.inside.queues
+    kept-same c.self.inside.live.map c.insert.new.self c.unset.new.ends c.self.inside.waiting
     c.in-Err.ensures.err
-    (kept-numbers c.self.inside.live.map c.self.inside.ends c.unset.new.ends c.self.inside.queues
+    (kept-numbers c.self.inside.live.map c.self.inside.ends c.unset.new.ends c.self.inside.waiting
     (gets-loses c.self.inside.ends c.set.new.ends c.unset.new.ends (end.Ap c.args.ap) c.args.peer
     c.args.number c.in_ok-set.ensures.set c.unset.ensures)
     c.self.invariant)
 
 pub returns-in-Ok-clause-added : goal.returns-in-Ok-clause-added
 returns-in-Ok-clause-added c =
-    adds c.self.inside.live.map c.insert.new.self c.self.inside.queues c.args.self.now
+    adds c.self.inside.live.map c.insert.new.self c.args.self.now
     c.args.number c.args.ap c.args.peer c.args.protocol c.in_ok-connection.connection
     c.self.view_is
-    (are-free c.self.inside.live.map c.self.inside.ends c.self.inside.queues c.args.self.now
+    (are-free c.self.inside.live.map c.self.inside.ends c.self.inside.waiting c.args.self.now
     c.args.number c.args.ap c.args.peer c.self.invariant c.self.view_is c.requires.far
     c.requires.free).number
     c.in-Ok.ensures.entries c.in_ok-connection.ensures

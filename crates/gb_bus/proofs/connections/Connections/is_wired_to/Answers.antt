@@ -1,7 +1,6 @@
--- What isn't read of the connections doesn't matter.
-use Rattle.std.proofs.Common.{[], ◌≡◌, ap, ◌∙◌}
+-- All are looked at.
+use Rattle.std.proofs.Common.{◌≡◌, ap, ◌∙◌}
 use Rattle.std.specs.List.{list_any}
-use Rattle.gb_bus.proofs.OverviewEntries.{any-wired}
 use Rattle.gb_bus.specs.Parts.{is_wired_to}
 use Rattle.gb_bus.specs.Seen.{all_seen}
 use Rattle.gb_bus.proofs.connections.Connections.is_wired_to.Goals as goal
@@ -12,8 +11,7 @@ loop-connection-init c =
     c.into_iter-connection-iterator.ensures.into_iter_gives.0 in (
       tt,
       tt,
-      ap (λ es. list_any (is_wired_to c.args.intf) (all_seen [] es))
+      ap (λ es. list_any (is_wired_to c.args.intf) (all_seen es))
           start
-          ∙ any-wired c.self.inside.queues c.args.intf c.self.inside.live.map.entries
           ∙ ap (list_any (is_wired_to c.args.intf)) c.self.view_is,
     )

@@ -1,5 +1,5 @@
 -- None of the connections that were looked at is one.
-use Rattle.std.proofs.Common.{[], ◌≡◌}
+use Rattle.std.proofs.Common.{◌≡◌}
 use Rattle.std.specs.List.{list_any}
 use Rattle.gb_bus.specs.Parts.{is_wired_to}
 use Rattle.gb_bus.specs.Seen.{all_seen}
@@ -9,5 +9,5 @@ abbrev pub invariant-loop-connection : goal.invariant-loop-connection
 invariant-loop-connection l =
     (goal.iterator-loop-connection).can_next l.connection-iterator
     × (goal.iterator-loop-connection).is_finite l.connection-iterator
-    × (list_any (is_wired_to l.intf) (all_seen [] l.connection-iterator)
+    × (list_any (is_wired_to l.intf) (all_seen l.connection-iterator)
     ≡ list_any (is_wired_to l.intf) l.self)

@@ -13,7 +13,7 @@ returns-in_err-number c =
     c.from_residual.ensures
     ∙ sym (ap (option_map (λ (x : Connection). x.number))
     (ap (find (joins c.args.ap c.args.peer)) (sym c.self.view_is)
-    ∙ joins-nowhere c.self.inside.live.map c.self.inside.ends c.self.inside.queues c.args.ap
+    ∙ joins-nowhere c.self.inside.live.map c.self.inside.ends c.self.inside.waiting c.args.ap
     c.args.peer c.self.invariant
     (ap (number_at c.self.inside.ends) (sym c.of.ensures) ∙ sym c.in_err-number.ensures.value)))
 
@@ -22,7 +22,7 @@ returns-in_err-connection c =
     c.from_residual-in_err-connection.ensures
     ∙ sym (ap (option_map (λ (x : Connection). x.number))
     (ap (find (joins c.args.ap c.args.peer)) (sym c.self.view_is)
-    ∙ joins-dead c.self.inside.live.map c.self.inside.ends c.self.inside.queues c.args.ap
+    ∙ joins-dead c.self.inside.live.map c.self.inside.ends c.self.inside.waiting c.args.ap
     c.args.peer c.in_ok-number.field-0.now c.self.invariant
     (ap (number_at c.self.inside.ends) (sym c.of.ensures) ∙ sym c.in_ok-number.ensures.value)
     (sym c.in_err-connection.ensures)))
@@ -31,20 +31,20 @@ pub returns-then-joins : goal.returns-then-joins
 returns-then-joins c =
     sym (ap (option_map (λ (x : Connection). x.number))
     (ap (find (joins c.args.ap c.args.peer)) (sym c.self.view_is)
-    ∙ joins-there c.self.inside.live.map c.self.inside.ends c.self.inside.queues c.args.ap
+    ∙ joins-there c.self.inside.live.map c.self.inside.ends c.self.inside.waiting c.args.ap
     c.args.peer c.in_ok-number.field-0.now c.in_ok-connection.connection.now c.self.invariant
     (ap (number_at c.self.inside.ends) (sym c.of.ensures) ∙ sym c.in_ok-number.ensures.value)
     (sym c.in_ok-connection.ensures)
-    ∙ ap (λ b. cond b (Some (seen c.self.inside.queues c.in_ok-number.field-0.now
+    ∙ ap (λ b. cond b (Some (seen c.in_ok-number.field-0.now
     c.in_ok-connection.connection.now)) None) (sym c.joins.ensures ∙ c.if-joins.true)))
 
 pub returns-else-joins : goal.returns-else-joins
 returns-else-joins c =
     sym (ap (option_map (λ (x : Connection). x.number))
     (ap (find (joins c.args.ap c.args.peer)) (sym c.self.view_is)
-    ∙ joins-there c.self.inside.live.map c.self.inside.ends c.self.inside.queues c.args.ap
+    ∙ joins-there c.self.inside.live.map c.self.inside.ends c.self.inside.waiting c.args.ap
     c.args.peer c.in_ok-number.field-0.now c.in_ok-connection.connection.now c.self.invariant
     (ap (number_at c.self.inside.ends) (sym c.of.ensures) ∙ sym c.in_ok-number.ensures.value)
     (sym c.in_ok-connection.ensures)
-    ∙ ap (λ b. cond b (Some (seen c.self.inside.queues c.in_ok-number.field-0.now
+    ∙ ap (λ b. cond b (Some (seen c.in_ok-number.field-0.now
     c.in_ok-connection.connection.now)) None) (sym c.joins.ensures ∙ c.if-joins.false)))

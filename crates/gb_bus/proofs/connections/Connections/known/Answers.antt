@@ -1,6 +1,5 @@
--- What isn't read of the connections doesn't matter.
-use Rattle.std.proofs.Common.{[], ◌≡◌, ◌++◌, ap, map, ◌∙◌}
-use Rattle.gb_bus.proofs.OverviewEntries.{all-known}
+-- All are told of.
+use Rattle.std.proofs.Common.{◌≡◌, ◌++◌, ap, map, ◌∙◌}
 use Rattle.gb_bus.specs.Seen.{all_seen}
 use Rattle.gb_bus.specs.Overview.{known_as}
 use Rattle.gb_bus.proofs.connections.Connections.known.Goals as goal
@@ -11,10 +10,9 @@ loop-number-init c =
     c.into_iter-number-iterator.ensures.into_iter_gives.0 in (
       tt,
       tt,
-      ap (λ ks. ks ++ map known_as (all_seen [] c.into_iter-number-iterator.result))
+      ap (λ ks. ks ++ map known_as (all_seen c.into_iter-number-iterator.result))
           c.new-known.ensures
-          ∙ ap (λ es. map known_as (all_seen [] es))
+          ∙ ap (λ es. map known_as (all_seen es))
           start
-          ∙ all-known c.self.inside.queues c.self.inside.live.map.entries
           ∙ ap (map known_as) c.self.view_is,
     )

@@ -2,34 +2,34 @@
 use Rattle.std.proofs.Common.{ap, sym, ◌∙◌}
 use Rattle.gb_bus.proofs.Keeping.{kept-same, kept-set}
 use Rattle.gb_bus.proofs.SeeingSides.{matches, matches-none, side-ends}
-use Rattle.gb_bus.specs.Seen.{all_seen, alone}
+use Rattle.gb_bus.specs.Seen.{all_seen, seen}
 use Rattle.gb_bus.specs.Sides.{MatchesAs}
 use Rattle.gb_bus.proofs.connections.Connections.matched.Goals as goal
 
 pub invariant_of-self : goal.invariant_of-self
 invariant_of-self c =
     kept-same c.self.inside.live.map c.get_mut.follows.lender-at-none.map c.self.inside.ends
-    c.self.inside.queues c.get_mut.follows.holds-at-none c.self.invariant
+    c.self.inside.waiting c.get_mut.follows.holds-at-none c.self.invariant
 
 pub returns-in_default : goal.returns-in_default
 returns-in_default c =
-    matches-none c.self.inside.live.map c.self.inside.queues c.args.self.now c.args.k c.args.side
+    matches-none c.self.inside.live.map c.args.self.now c.args.k c.args.side
     c.args.number c.args.label c.self.view_is (sym c.in_default.ensures.value)
-    (ap (all_seen c.self.inside.queues) c.get_mut.follows.holds-at-none ∙ c.self.view_is)
+    (ap all_seen c.get_mut.follows.holds-at-none ∙ c.self.view_is)
 
 pub invariant_of-self-2 : goal.invariant_of-self-2
 invariant_of-self-2 c =
     kept-set c.self.inside.live.map (c.get_mut.follows.lender c.matched.new.self).map
-    c.self.inside.ends c.self.inside.queues c.args.k c.in-Some.connection.now c.matched.new.self
+    c.self.inside.ends c.self.inside.waiting c.args.k c.in-Some.connection.now c.matched.new.self
     (sym c.in-Some.ensures.value) (c.get_mut.follows.holds c.matched.new.self)
     (side-ends c.args.side (λ v w. MatchesAs v w c.args.number c.args.label c.matched.result)
-    (alone 0 c.in-Some.connection.now) (alone 0 c.matched.new.self) c.matched.ensures)
+    (seen 0 c.in-Some.connection.now) (seen 0 c.matched.new.self) c.matched.ensures)
     c.self.invariant
 
 pub returns : goal.returns
 returns c =
     matches c.self.inside.live.map (c.get_mut.follows.lender c.matched.new.self).map
-    c.self.inside.ends c.self.inside.queues c.args.self.now c.args.k c.args.side c.args.number
+    c.self.inside.ends c.self.inside.waiting c.args.self.now c.args.k c.args.side c.args.number
     c.args.label c.matched.result c.in-Some.connection.now c.matched.new.self c.self.invariant
     c.self.view_is (sym c.in-Some.ensures.value) (c.get_mut.follows.holds c.matched.new.self)
     c.matched.ensures

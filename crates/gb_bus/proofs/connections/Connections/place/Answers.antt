@@ -7,14 +7,14 @@ use Rattle.gb_bus.proofs.connections.Connections.place.Goals as goal
 
 pub returns-in-Some : goal.returns-in-Some
 returns-in-Some c =
-    places-counted c.self.inside.live.map c.self.inside.ends c.self.inside.queues c.args.at
+    places-counted c.self.inside.live.map c.self.inside.ends c.self.inside.waiting c.args.at
     c.in-Some.found.0 c.in-Some.found.1 c.self.invariant c.in-Some.ensures
     ∙ ap (place_at c.args.at) c.self.view_is
 
 pub returns-in_err-number : goal.returns-in_err-number
 returns-in_err-number c =
     c.from_residual.ensures
-    ∙ sym (places-nowhere c.self.inside.live.map c.self.inside.ends c.self.inside.queues c.args.at
+    ∙ sym (places-nowhere c.self.inside.live.map c.self.inside.ends c.self.inside.waiting c.args.at
     c.self.invariant
     (ap (number_at c.self.inside.ends) (sym c.of.ensures) ∙ sym c.in_err-number.ensures.value))
     ∙ ap (place_at c.args.at) c.self.view_is
@@ -22,7 +22,7 @@ returns-in_err-number c =
 pub returns-in_err-get : goal.returns-in_err-get
 returns-in_err-get c =
     c.from_residual-in_err-get.ensures
-    ∙ sym (places-dead c.self.inside.live.map c.self.inside.ends c.self.inside.queues c.args.at
+    ∙ sym (places-dead c.self.inside.live.map c.self.inside.ends c.self.inside.waiting c.args.at
     c.in_ok-number.field-0.now c.self.invariant
     (ap (number_at c.self.inside.ends) (sym c.of.ensures) ∙ sym c.in_ok-number.ensures.value)
     (sym c.in_err-get.ensures))
@@ -33,7 +33,7 @@ returns-in_err-side c =
     c.from_residual-in_err-side.ensures
     ∙ ap (option_map (λ s. (c.in_ok-number.field-0.now, s)))
     (sym c.in_err-side.was ∙ c.side_at.ensures)
-    ∙ sym (places c.self.inside.live.map c.self.inside.ends c.self.inside.queues c.args.at
+    ∙ sym (places c.self.inside.live.map c.self.inside.ends c.self.inside.waiting c.args.at
     c.in_ok-number.field-0.now c.in_ok-get.field-0.now c.self.invariant
     (ap (number_at c.self.inside.ends) (sym c.of.ensures) ∙ sym c.in_ok-number.ensures.value)
     (sym c.in_ok-get.ensures))
@@ -43,7 +43,7 @@ pub returns : goal.returns
 returns c =
     ap (option_map (λ s. (c.in_ok-number.field-0.now, s)))
     (sym c.in_ok-side.was ∙ c.side_at.ensures)
-    ∙ sym (places c.self.inside.live.map c.self.inside.ends c.self.inside.queues c.args.at
+    ∙ sym (places c.self.inside.live.map c.self.inside.ends c.self.inside.waiting c.args.at
     c.in_ok-number.field-0.now c.in_ok-get.field-0.now c.self.invariant
     (ap (number_at c.self.inside.ends) (sym c.of.ensures) ∙ sym c.in_ok-number.ensures.value)
     (sym c.in_ok-get.ensures))

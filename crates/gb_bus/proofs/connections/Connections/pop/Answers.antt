@@ -1,20 +1,46 @@
--- The connection that names the end loses its front message.
-use Rattle.std.proofs.Common.{ap, ◌∙◌}
-use Rattle.gb_bus.proofs.Placing.{placed}
-use Rattle.gb_bus.proofs.SeeingQueues.{kept-pops, pops}
-use Rattle.gb_bus.specs.Parts.{place_at}
+-- The connection with the number loses its front message.
+use Rattle.std.proofs.Common.{ap, subst, sym, ◌∙◌}
+use Rattle.gb_bus.proofs.Keeping.{kept-change, kept-same}
+use Rattle.gb_bus.proofs.SeeingQueues.{takes, takes-nowhere}
+use Rattle.gb_bus.specs.Parts.{TakesFrontAs}
+use Rattle.gb_bus.specs.Seen.{all_seen}
 use Rattle.gb_bus.proofs.connections.Connections.pop.Goals as goal
 
 pub invariant_of-self : goal.invariant_of-self
 invariant_of-self c =
-    kept-pops c.self.inside.live.map c.self.inside.ends c.self.inside.queues c.pop.new.self
-    c.args.at c.pop.result c.pop.ensures c.self.invariant
+    kept-same c.self.inside.live.map c.get_mut.follows.lender-at-none.map c.self.inside.ends
+    c.self.inside.waiting c.get_mut.follows.holds-at-none c.self.invariant
+
+pub returns-in_err-connection : goal.returns-in_err-connection
+returns-in_err-connection c =
+    subst
+    (TakesFrontAs c.args.self.now (all_seen c.get_mut.follows.lender-at-none.map.entries) c.args.k
+    c.args.side) (sym c.from_residual.ensures)
+    (takes-nowhere c.self.inside.live.map c.args.self.now c.args.k c.args.side c.self.view_is
+    (sym c.in_err-connection.ensures.value)
+    (ap all_seen c.get_mut.follows.holds-at-none ∙ c.self.view_is))
+
+pub pop-requires-clause-far : goal.pop-requires-clause-far
+pop-requires-clause-far c =
+    (c.self.invariant.indexed c.args.k c.in_ok-connection.connection.now
+    (sym c.in_ok-connection.ensures.value)).beyond
+
+pub pop-requires-clause-marked : goal.pop-requires-clause-marked
+pop-requires-clause-marked c =
+    c.self.invariant.marked c.args.k c.in_ok-connection.connection.now
+    (sym c.in_ok-connection.ensures.value)
+
+pub invariant_of-self-2 : goal.invariant_of-self-2
+invariant_of-self-2 c =
+    kept-change c.self.inside.live.map (c.get_mut.follows.lender c.pop.new.self).map
+    c.self.inside.ends c.self.inside.waiting c.pop.new.waiting c.args.k
+    c.in_ok-connection.connection.now c.pop.new.self (sym c.in_ok-connection.ensures.value)
+    (c.get_mut.follows.holds c.pop.new.self) c.pop.ensures.marks c.self.invariant
 
 pub returns : goal.returns
-returns c = λ k s named.
-    let p =
-    placed c.self.inside.live.map c.self.inside.ends c.self.inside.queues c.args.at k s
-    c.self.invariant (ap (place_at c.args.at) c.self.view_is ∙ named) in
-    pops c.self.inside.live.map c.self.inside.ends c.self.inside.queues c.pop.new.self
-    c.args.self.now k p.connection s c.args.at c.pop.result c.self.invariant c.self.view_is
-    p.there p.wired p.own c.pop.ensures
+returns c =
+    takes c.self.inside.live.map (c.get_mut.follows.lender c.pop.new.self).map
+    c.self.inside.ends c.self.inside.waiting c.args.self.now c.args.k
+    c.in_ok-connection.connection.now c.pop.new.self c.args.side c.pop.result c.self.invariant
+    c.self.view_is (sym c.in_ok-connection.ensures.value) (c.get_mut.follows.holds c.pop.new.self)
+    c.pop.ensures.taken

@@ -1,41 +1,51 @@
 -- The connection with the number gets the message where it is wired.
-use Rattle.std.proofs.Common.{IsSome, subst, sym}
-use Rattle.gb_bus.proofs.Keeping.{kept-stays}
-use Rattle.gb_bus.proofs.Queued.{queue-toward}
+use Rattle.std.proofs.Common.{ap, sym, ◌∙◌}
+use Rattle.gb_bus.proofs.Keeping.{kept-change, kept-same}
 use Rattle.gb_bus.proofs.SeeingChanges.{nothing-changes}
-use Rattle.gb_bus.proofs.SeeingQueues.{adds-toward, kept-adds}
-use Rattle.gb_bus.specs.Index.{AddsAt}
+use Rattle.gb_bus.proofs.SeeingQueues.{puts}
 use Rattle.gb_bus.specs.Parts.{put}
-use Rattle.gb_switch.specs.Queues.{items_at}
-use Rattle.std.specs.Option.{IfSome}
+use Rattle.gb_bus.specs.Seen.{all_seen}
 use Rattle.gb_bus.proofs.connections.Connections.push.Goals as goal
-
-pub returns-in_default : goal.returns-in_default
-returns-in_default c =
-    nothing-changes c.self.inside.live.map c.self.inside.queues c.args.self.now c.args.k
-    (put c.args.side c.args.item) c.self.view_is (sym c.in_default.ensures)
-
-pub add_or_lose-requires : goal.add_or_lose-requires
-add_or_lose-requires c =
-    subst (λ o. IfSome o (λ a. IsSome (items_at c.self.inside.queues a))) (sym c.toward.ensures)
-    (queue-toward c.self.inside.live.map c.self.inside.ends c.self.inside.queues c.args.k
-    c.in-Some.connection.now c.args.side c.self.invariant (sym c.in-Some.ensures))
 
 pub invariant_of-self : goal.invariant_of-self
 invariant_of-self c =
-    kept-stays c.self.inside.live.map c.self.inside.ends c.self.inside.queues
-    c.add_or_lose.new.queues c.in_err-add_or_lose.ensures.unchanged c.self.invariant
+    kept-same c.self.inside.live.map c.get_mut.follows.lender-at-none.map c.self.inside.ends
+    c.self.inside.waiting c.get_mut.follows.holds-at-none c.self.invariant
+
+pub returns-in_default : goal.returns-in_default
+returns-in_default c =
+    ap all_seen c.get_mut.follows.holds-at-none
+    ∙ c.self.view_is
+    ∙ nothing-changes c.self.inside.live.map c.args.self.now c.args.k
+    (put c.args.side c.args.item) c.self.view_is (sym c.in_default.ensures.value)
+
+pub push-requires-clause-far : goal.push-requires-clause-far
+push-requires-clause-far c =
+    (c.self.invariant.indexed c.args.k c.in-Some.connection.now
+    (sym c.in-Some.ensures.value)).beyond
+
+pub push-requires-clause-marked : goal.push-requires-clause-marked
+push-requires-clause-marked c =
+    c.self.invariant.marked c.args.k c.in-Some.connection.now (sym c.in-Some.ensures.value)
+
+pub invariant_of-self-in_err-push : goal.invariant_of-self-in_err-push
+invariant_of-self-in_err-push c =
+    kept-change c.self.inside.live.map (c.get_mut.follows.lender c.push.new.self).map
+    c.self.inside.ends c.self.inside.waiting c.push.new.waiting c.args.k c.in-Some.connection.now
+    c.push.new.self (sym c.in-Some.ensures.value) (c.get_mut.follows.holds c.push.new.self)
+    c.push.ensures.marks c.self.invariant
 
 pub invariant_of-self-2 : goal.invariant_of-self-2
 invariant_of-self-2 c =
-    kept-adds c.self.inside.live.map c.self.inside.ends c.self.inside.queues
-    c.add_or_lose.new.queues c.toward.result c.args.item c.in_ok-add_or_lose.ensures.added
-    c.self.invariant
+    kept-change c.self.inside.live.map (c.get_mut.follows.lender c.push.new.self).map
+    c.self.inside.ends c.self.inside.waiting c.push.new.waiting c.args.k c.in-Some.connection.now
+    c.push.new.self (sym c.in-Some.ensures.value) (c.get_mut.follows.holds c.push.new.self)
+    c.push.ensures.marks c.self.invariant
 
 pub returns : goal.returns
 returns c =
-    adds-toward c.self.inside.live.map c.self.inside.ends c.self.inside.queues
-    c.add_or_lose.new.queues c.args.self.now c.args.k c.in-Some.connection.now c.args.side
-    c.args.item c.self.invariant c.self.view_is (sym c.in-Some.ensures)
-    (subst (λ o. AddsAt o c.args.item c.self.inside.queues c.add_or_lose.new.queues)
-    c.toward.ensures c.in_ok-add_or_lose.ensures.added)
+    puts c.self.inside.live.map (c.get_mut.follows.lender c.push.new.self).map
+    c.self.inside.ends c.self.inside.waiting c.args.self.now c.args.k c.in-Some.connection.now
+    c.push.new.self c.args.side c.args.item c.self.invariant c.self.view_is
+    (sym c.in-Some.ensures.value) (c.get_mut.follows.holds c.push.new.self)
+    c.in_ok-push.ensures.put

@@ -8,25 +8,29 @@ use Rattle.gb_bus.proofs.connections.Connections.remove.Goals as goal
 
 pub invariant_of-self : goal.invariant_of-self
 invariant_of-self c =
-    kept-same c.self.inside.live.map c.shift_remove.new.self c.self.inside.ends c.self.inside.queues
-    c.in_default.ensures.unchanged c.self.invariant
+    kept-same c.self.inside.live.map c.shift_remove.new.self c.self.inside.ends
+    c.self.inside.waiting c.in_default.ensures.unchanged c.self.invariant
 
 pub returns-in_default : goal.returns-in_default
 returns-in_default c =
-    ap (all_seen c.self.inside.queues) c.in_default.ensures.unchanged
+    ap all_seen c.in_default.ensures.unchanged
     ∙ c.self.view_is
-    ∙ removes-none c.self.inside.live.map c.self.inside.queues c.args.self.now c.args.k
+    ∙ removes-none c.self.inside.live.map c.args.self.now c.args.k
     c.self.view_is (sym c.in_default.ensures.value)
+
+pub lose-requires : goal.lose-requires
+lose-requires c =
+    (c.self.invariant.indexed c.args.k c.in-Some.connection (sym c.in-Some.ensures.value)).beyond
 
 pub invariant_of-self-2 : goal.invariant_of-self-2
 invariant_of-self-2 c =
     kept-removed c.self.inside.live.map c.shift_remove.new.self c.self.inside.ends c.unset.new.ends
-    c.self.inside.queues c.destroy.new.self c.args.k c.in-Some.connection
+    c.self.inside.waiting c.lose.new.waiting c.args.k c.in-Some.connection c.lose.new.self
     (sym c.in-Some.ensures.value) c.in-Some.ensures.updates.0 c.in-Some.ensures.unique
-    c.unset.ensures c.destroy.ensures c.self.invariant
+    c.unset.ensures c.lose.ensures.lost c.lose.ensures.marks c.self.invariant
 
 pub returns : goal.returns
 returns c =
-    removes c.self.inside.live.map c.shift_remove.new.self c.self.inside.ends c.self.inside.queues
-    c.destroy.new.self c.args.self.now c.args.k c.in-Some.connection c.self.invariant
-    c.self.view_is (sym c.in-Some.ensures.value) c.in-Some.ensures.entries c.destroy.ensures
+    removes c.self.inside.live.map c.shift_remove.new.self c.args.self.now c.args.k
+    c.in-Some.connection c.self.invariant.unique c.self.view_is (sym c.in-Some.ensures.value)
+    c.in-Some.ensures.entries

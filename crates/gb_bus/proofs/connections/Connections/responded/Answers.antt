@@ -2,35 +2,35 @@
 use Rattle.std.proofs.Common.{ap, sym, ◌∙◌}
 use Rattle.gb_bus.proofs.Keeping.{kept-same, kept-set}
 use Rattle.gb_bus.proofs.SeeingSides.{responds, responds-none, side-ends}
-use Rattle.gb_bus.specs.Seen.{all_seen, alone}
+use Rattle.gb_bus.specs.Seen.{all_seen, seen}
 use Rattle.gb_bus.specs.Sides.{MatchesAs, asked_of}
 use Rattle.gb_bus.proofs.connections.Connections.responded.Goals as goal
 
 pub invariant_of-self : goal.invariant_of-self
 invariant_of-self c =
     kept-same c.self.inside.live.map c.get_mut.follows.lender-at-none.map c.self.inside.ends
-    c.self.inside.queues c.get_mut.follows.holds-at-none c.self.invariant
+    c.self.inside.waiting c.get_mut.follows.holds-at-none c.self.invariant
 
 pub returns-in_default : goal.returns-in_default
 returns-in_default c =
-    responds-none c.self.inside.live.map c.self.inside.queues c.args.self.now c.args.k c.args.side
+    responds-none c.self.inside.live.map c.args.self.now c.args.k c.args.side
     c.args.number c.args.label c.self.view_is (sym c.in_default.ensures.value)
-    (ap (all_seen c.self.inside.queues) c.get_mut.follows.holds-at-none ∙ c.self.view_is)
+    (ap all_seen c.get_mut.follows.holds-at-none ∙ c.self.view_is)
 
 pub invariant_of-self-2 : goal.invariant_of-self-2
 invariant_of-self-2 c =
     kept-set c.self.inside.live.map (c.get_mut.follows.lender c.responded.new.self).map
-    c.self.inside.ends c.self.inside.queues c.args.k c.in-Some.connection.now c.responded.new.self
+    c.self.inside.ends c.self.inside.waiting c.args.k c.in-Some.connection.now c.responded.new.self
     (sym c.in-Some.ensures.value) (c.get_mut.follows.holds c.responded.new.self)
     (side-ends c.args.side
     (λ v w. MatchesAs v w (asked_of c.responded.result.0 c.args.number) c.args.label
-    c.responded.result.1) (alone 0 c.in-Some.connection.now) (alone 0 c.responded.new.self)
+    c.responded.result.1) (seen 0 c.in-Some.connection.now) (seen 0 c.responded.new.self)
     c.responded.ensures.1) c.self.invariant
 
 pub returns : goal.returns
 returns c =
     responds c.self.inside.live.map (c.get_mut.follows.lender c.responded.new.self).map
-    c.self.inside.ends c.self.inside.queues c.args.self.now c.args.k c.args.side c.args.number
+    c.self.inside.ends c.self.inside.waiting c.args.self.now c.args.k c.args.side c.args.number
     c.args.label c.responded.result c.in-Some.connection.now c.responded.new.self c.self.invariant
     c.self.view_is (sym c.in-Some.ensures.value) (c.get_mut.follows.holds c.responded.new.self)
     c.responded.ensures

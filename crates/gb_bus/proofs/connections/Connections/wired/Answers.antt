@@ -8,11 +8,11 @@ pub returns-in_err-get : goal.returns-in_err-get
 returns-in_err-get c =
     c.from_residual.ensures
     ∙ sym (ap (option_map (λ (x : Connection). x.wired))
-    (finds c.self.inside.live.map c.self.inside.queues c.args.self.now c.args.k None c.self.view_is
+    (finds c.self.inside.live.map c.args.self.now c.args.k None c.self.view_is
     (sym c.in_err-get.ensures)))
 
 pub returns : goal.returns
 returns c =
     sym (ap (option_map (λ (x : Connection). x.wired))
-    (finds c.self.inside.live.map c.self.inside.queues c.args.self.now c.args.k
+    (finds c.self.inside.live.map c.args.self.now c.args.k
     (Some c.in_ok-get.field-0.now) c.self.view_is (sym c.in_ok-get.ensures)))

@@ -1,7 +1,6 @@
--- What isn't read of the connections doesn't matter.
-use Rattle.std.proofs.Common.{[], ◌≡◌, ◌++◌, ap, map, ◌∙◌}
+-- All are looked at.
+use Rattle.std.proofs.Common.{◌≡◌, ◌++◌, ap, map, ◌∙◌}
 use Rattle.std.specs.List.{filter}
-use Rattle.gb_bus.proofs.OverviewEntries.{numbers-wired}
 use Rattle.gb_bus.specs.Parts.{is_wired_to}
 use Rattle.gb_bus.specs.Seen.{all_seen}
 use Rattle.gb_bus.proofs.connections.Connections.wired_to.Goals as goal
@@ -13,9 +12,8 @@ loop-number-init c =
       tt,
       tt,
       ap (λ ns. ns ++ map (λ x. x.number) (filter (is_wired_to c.args.intf)
-          (all_seen [] c.into_iter-number-iterator.result))) c.new-numbers.ensures
-          ∙ ap (λ es. map (λ x. x.number) (filter (is_wired_to c.args.intf) (all_seen [] es)))
+          (all_seen c.into_iter-number-iterator.result))) c.new-numbers.ensures
+          ∙ ap (λ es. map (λ x. x.number) (filter (is_wired_to c.args.intf) (all_seen es)))
           start
-          ∙ numbers-wired c.self.inside.queues c.args.intf c.self.inside.live.map.entries
           ∙ ap (λ cs. map (λ x. x.number) (filter (is_wired_to c.args.intf) cs)) c.self.view_is,
     )

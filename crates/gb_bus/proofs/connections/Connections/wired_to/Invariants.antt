@@ -1,5 +1,5 @@
 -- The numbers found so far, and those of the connections not looked at yet, are all.
-use Rattle.std.proofs.Common.{[], ◌≡◌, ◌++◌, map}
+use Rattle.std.proofs.Common.{◌≡◌, ◌++◌, map}
 use Rattle.std.specs.List.{filter}
 use Rattle.gb_bus.specs.Parts.{is_wired_to}
 use Rattle.gb_bus.specs.Seen.{all_seen}
@@ -11,6 +11,6 @@ invariant-loop-number l =
     × (goal.iterator-loop-number).is_finite l.number-iterator
     × (l.numbers
     ++ map (λ c. c.number)
-    (filter (is_wired_to l.intf) (all_seen [] l.number-iterator))
+    (filter (is_wired_to l.intf) (all_seen l.number-iterator))
     ≡ map (λ c. c.number)
     (filter (is_wired_to l.intf) l.self))

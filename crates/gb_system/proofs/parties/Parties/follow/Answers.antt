@@ -15,11 +15,11 @@ returns-in-Nothing c = record {
       (sym c.in-Nothing.is) (does-nothing st);
 }
 
-pub returns-in_ok-wire-in-Wire : goal.returns-in_ok-wire-in-Wire
-returns-in_ok-wire-in-Wire c = record {
+pub returns-in-Wire : goal.returns-in-Wire
+returns-in-Wire c = record {
   step = λ s st.
       subst (λ (w : Behind). Does (record c.args.self.now { bus = c.wire.new.self }) (action_of w) s
       c.args.told.now c.args.told.now) (sym c.in-Wire.is)
       (wire-done c.wire.new.self c.in-Wire.connection st
-      (c.in_ok-wire-in-Wire.ensures.step (around_bus [] s) s.bus st.bus));
+      (c.wire.ensures.step (around_bus [] s) s.bus st.bus));
 }

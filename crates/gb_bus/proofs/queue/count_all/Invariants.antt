@@ -1,9 +1,0 @@
--- What was counted so far, and what the ends not looked at yet have, is all.
-use Rattle.std.proofs.Common.{◌≡◌, ◌++◌, drop, map}
-use Rattle.gb_bus.specs.Overview.{waiting_at}
-use Rattle.gb_bus.proofs.queue.count_all.Given as goal
-
-abbrev pub invariant-loop-at : goal.invariant-loop-at
-invariant-loop-at l =
-    l.waiting ++ map (waiting_at l.queues) (drop l.at-index l.ends)
-    ≡ map (waiting_at l.queues) l.ends
