@@ -7,12 +7,12 @@ pub mod Fronts
 pub mod Given
 pub mod Idle
 pub mod Indexed
+pub mod Known
 pub mod LinksByNumber
 pub mod Manifests
 pub mod Modules
 pub mod Named
 pub mod Ordering
-pub mod Quiet
 pub mod Restoring
 pub mod Rising
 pub mod Unawaited

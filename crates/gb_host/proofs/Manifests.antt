@@ -3,9 +3,8 @@ use Rattle.std.proofs.Common.{◌≡◌, ℕ, Option, Some, None, option_map, Re
 use Rattle.std.proofs.Common.{ap, ◌∙◌}
 use Rattle.gb_base.specs.declared.entry.Entry.TheVariants as entry
 use Rattle.gb_base.specs.declared.steps.Purpose.{Purpose}
-use Rattle.gb_formats.specs.Manifest.{Manifest}
+use Rattle.gb_formats.specs.Manifest.{Manifest, refusal_in}
 use Rattle.gb_formats.specs.ManifestRules as rules
-use Rattle.gb_host.specs.Asking.{refused_in}
 use Rattle.gb_machine.specs.Failures.{interface_fails}
 use Rattle.gb_machine.specs.Host.{Host}
 use Rattle.gb_machine.specs.Sequences.{manifest_checked}
@@ -15,7 +14,7 @@ use Rattle.gb_manifest.specs.declared.refusal.Refused.{Refused}
 
 pub refused-checked : (answer : Result Manifest rules.Refused) (o : Option Refused) (why : Refused)
     (p : Purpose) (bytes : List ℕ) (h : Host)
-    → option_map refused_of o ≡ refused_in answer → o ≡ Some why
+    → option_map refused_of o ≡ refusal_in answer → o ≡ Some why
     → telling (entry.Manifest p.intf why.at why.reason) (failed_turn (interface_fails p h))
     ≡ manifest_checked answer p bytes h
 refused-checked (Ok m) o why p bytes h e is =

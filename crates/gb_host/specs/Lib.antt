@@ -4,8 +4,8 @@ pub mod Changes
 pub mod Counts
 pub mod Images
 pub mod Indexes
+pub mod Known
 pub mod Named
-pub mod Quiet
 pub mod Refusing
 pub mod Serving
 pub mod Stands

@@ -16,6 +16,7 @@ ghost use Rattle.gb_machine.specs.Sequences.{device_given, enumerated, manifest_
 ghost use Rattle.gb_machine.specs.Sequences.{manifest_told, size_known, size_told};
 ghost use Rattle.gb_machine.specs.Turns as turns;
 ghost use Rattle.gb_machine.specs.Turns.{failed_turn, telling, turn};
+ghost use Rattle.gb_manifest.specs.Checks.{IsAccepted};
 
 use crate::failing::{tell_interface, to_step};
 use crate::host::SVC;
@@ -182,13 +183,14 @@ impl Host {
         }
     }
 
-    /// The interface is enumerated with this manifest.
+    /// The interface is enumerated with this manifest, which was accepted.
     fn enumerated(
         &mut self,
         acts: &mut Acts,
         purpose: Purpose,
         bytes: Bytes,
     ) -> Result<(), OutOfMemory>
+        requires { IsAccepted bytes }
         ensures { TurnsAfter (turn
             (with_interface purpose.intf (enumerated bytes) (host_of self.old))
             (turns.Act.Tell (entry.Interface purpose.intf stage.Enumerated) ∷ []))

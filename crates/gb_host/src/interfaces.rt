@@ -7,12 +7,13 @@ ghost use Rattle.std.specs.Vec.{vec_capacity, vec_len};
 ghost use Rattle.gb_base.specs.declared.interface.Interface.{Interface};
 ghost use Rattle.gb_host.specs.Changes.{with_module};
 ghost use Rattle.gb_host.specs.declared.interfaces.Change.TheVariants as change;
-ghost use Rattle.gb_host.specs.Quiet.{AreQuiet};
+ghost use Rattle.gb_host.specs.Known.{AreQuiet, HasAccepted};
 ghost use Rattle.gb_machine.specs.Host.{has_device_id, has_primary, intf_before, is_device};
 ghost use Rattle.gb_machine.specs.Host.{is_intf, new_interface, staged};
 ghost use Rattle.gb_machine.specs.Lists.{at_first, first_free, in_order, without};
 ghost use Rattle.gb_machine.specs.Sequences.{enumerated};
 ghost use Rattle.gb_machine.specs.Waits.{interface_waits};
+ghost use Rattle.gb_manifest.specs.Checks.{IsAccepted};
 
 use crate::waiting::purpose_in;
 use gb_base::{Bytes, Interface, IntfStage, OutOfMemory, Purpose, Sequence, SequenceStep};
@@ -37,7 +38,8 @@ pub enum Change {
 }
 
 /// The interfaces that modules were inserted at, in order of number: thirty at most. A contract
-/// sees them alone. Where it is kept that no enumeration waits, none is looked at for one.
+/// sees them alone. Where it is kept that no enumeration waits, none is looked at for one. Their
+/// manifests were accepted, so none is checked again.
 #[derive(Drop)]
 pub struct Interfaces {
     known: Vec<Interface>,
@@ -45,16 +47,16 @@ pub struct Interfaces {
 }
 
 impl Model for Interfaces {
-    ghost use Rattle.std.specs.Prelude.{◌≡◌, true, List};
+    ghost use Rattle.std.specs.Prelude.{List};
     ghost use Rattle.gb_base.specs.declared.interface.Interface.{Interface};
 
     ghost Value = { List Interface };
 
-    ghost use Rattle.gb_host.specs.Quiet.{AreQuiet};
+    ghost use Rattle.gb_host.specs.Known.{AreKept};
 
     ghost view = { λ x. x.known.items };
 
-    ghost invariant = { λ x. x.quiet ≡ true → AreQuiet x.known.items };
+    ghost invariant = { λ x. AreKept x.quiet x.known.items };
 }
 
 impl Interfaces {
@@ -79,7 +81,8 @@ impl Interfaces {
 
     /// What is known of an interface.
     pub fn at(&self, intf: u8) -> Option<&Interface>
-        ensures { option_copied result ≡ find (is_intf intf) self.now }
+        ensures found { option_copied result ≡ find (is_intf intf) self.now }
+        ensures accepted { IfSome result (λ x. HasAccepted x.now) }
     {
         for interface in &self.known {
             if interface.intf == intf {
@@ -230,8 +233,9 @@ impl Interfaces {
         }
     }
 
-    /// An interface is enumerated with this manifest.
+    /// An interface is enumerated with this manifest, which was accepted.
     pub fn enumerate(&mut self, intf: u8, manifest: Bytes)
+        requires { IsAccepted manifest }
         ensures { self.new ≡ at_first (is_intf intf) (enumerated manifest) self.old }
     {
         if let Some(i) = self.index(intf) {

@@ -1,6 +1,7 @@
 //! When the application processor refuses what is asked of it.
 
 ghost use Rattle.std.specs.Prelude.{◌≡◌, option_map};
+ghost use Rattle.gb_host.specs.Known.{HasAccepted};
 ghost use Rattle.gb_machine.specs.Host as machine;
 ghost use Rattle.gb_machine.specs.Host.{control_of, cport_of, link_at};
 ghost use Rattle.gb_machine.specs.HostRefusals.{
@@ -20,7 +21,7 @@ ghost use Rattle.gb_manifest.specs.Values.{view_of};
 use crate::Host;
 use gb_base::{ConnState, Interface, IntfStage, Refusal};
 use gb_bridge_payload::uart_kinds::SEND_DATA;
-use gb_manifest::{CportView, check};
+use gb_manifest::{CportView, Manifest};
 use gb_payload::control_kinds::{CONNECTED, DISCONNECTED, DISCONNECTING};
 use gb_payload::protocols::{FIRMWARE, GPIO, I2C, LOOPBACK, SPI, UART};
 
@@ -156,11 +157,14 @@ impl Host {
 
 /// The CPort of an interface, outside bundle 0, that its manifest declares.
 pub(crate) fn declared(interface: &Interface, cport: u16) -> Option<CportView>
+    requires { HasAccepted interface.now }
     ensures { option_map view_of result ≡ cport_of cport interface.now }
 {
-    let Ok(manifest) = check(interface.manifest.items()) else {
+    let bytes = interface.manifest.items();
+    if bytes.is_empty() {
         return None;
-    };
+    }
+    let manifest = Manifest::accepted(bytes);
     let view = manifest.cport(cport)?;
     if view.bundle == 0 { None } else { Some(view) }
 }

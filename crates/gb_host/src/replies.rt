@@ -2,8 +2,7 @@
 
 ghost use Rattle.std.specs.Prelude.{◌≡◌, Ok, option_map};
 ghost use Rattle.gb_formats.specs.ControlRecords.{read_control_reply};
-ghost use Rattle.gb_formats.specs.Manifest.{check_answer};
-ghost use Rattle.gb_host.specs.Asking.{refused_in};
+ghost use Rattle.gb_formats.specs.Manifest.{refusal};
 ghost use Rattle.gb_machine.specs.SequenceSteps.{is_reply, is_svc_reply};
 ghost use Rattle.gb_machine.specs.Sequences.{payload_in, size_in};
 ghost use Rattle.gb_manifest.specs.Values.{refused_of};
@@ -68,7 +67,7 @@ pub fn size_in(payload: &[u8]) -> u16
 
 /// Why bytes are no manifest, None where they are one.
 pub fn refused_in(bytes: &[u8]) -> Option<Refused>
-    ensures { option_map refused_of result ≡ refused_in (check_answer bytes.now) }
+    ensures { option_map refused_of result ≡ refusal bytes.now }
 {
     match check(bytes) {
         Ok(_) => None,

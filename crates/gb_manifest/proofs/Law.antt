@@ -16,7 +16,7 @@ use Rattle.gb_formats.specs.Manifest.{descriptor_refusal, descriptors_from, head
 use Rattle.gb_formats.specs.Manifest.{in_front, major_field, manifest_after, manifest_of}
 use Rattle.gb_formats.specs.Manifest.{manifest_unless, minor_field, refusal, refusal_in}
 use Rattle.gb_formats.specs.ManifestRules.{Placed, Refused, rules_refusal}
-use Rattle.gb_manifest.specs.Checks.{Answers}
+use Rattle.gb_manifest.specs.Checks.{Answers, IsAccepted}
 use Rattle.gb_manifest.specs.declared.refusal.Refused as code
 use Rattle.gb_manifest.specs.Walks.{walk_from}
 use Rattle.gb_manifest.proofs.Checked.{answer_rules}
@@ -263,9 +263,22 @@ only bytes m n p q =
     let b = answered bytes n q in
     cc
 
+-- what is known of bytes that a check accepts
+pub record AreChecked (bytes : List ℕ) : Type 0 where
+  pub m : Manifest
+  pub answer : check_answer bytes ≡ Ok m
+  pub headed : IsHeaded bytes
+  pub checked : IsChecked bytes m
+
 ok_refusal : (r : Result Manifest Refused) → refusal_in r ≡ None → (m : Manifest) × (r ≡ Ok m)
 ok_refusal (Ok m) e = (m, refl)
 ok_refusal (Err why) e = absurd cc
+
+pub accepts : (bytes : List ℕ) → IsAccepted bytes → AreChecked bytes
+accepts bytes e =
+    let ok = ok_refusal (check_answer bytes) e in
+    let c = checked bytes ok.0 ok.1 in
+    record { m = ok.0; answer = ok.1; headed = headed bytes c.header; checked = c }
 
 pub law : (bytes : List ℕ)
     → AreBytes bytes → (refusal bytes ≡ None) ↔ ((m : Manifest) × IsManifest bytes m)

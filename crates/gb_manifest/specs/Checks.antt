@@ -1,7 +1,7 @@
 -- What checking bytes answers.
 use Rattle.std.specs.Prelude.{◌≡◌, ◌≤◌, ℕ, Some, None, Result, Ok, Err, List, length}
 use Rattle.gb_formats.specs.Manifest as formats
-use Rattle.gb_formats.specs.Manifest.{header_refusal}
+use Rattle.gb_formats.specs.Manifest.{header_refusal, refusal}
 use Rattle.gb_formats.specs.ManifestRules as rules
 use Rattle.gb_formats.specs.ManifestRules.{Placed}
 use Rattle.gb_manifest.specs.Met.{AreDeclared}
@@ -14,6 +14,10 @@ abbrev pub Answers : Result formats.Manifest Refused → Result formats.Manifest
     → Type 0
 Answers (Ok m) answer = answer ≡ Ok m
 Answers (Err why) answer = answer ≡ Err (refused_of why)
+
+-- A check of the bytes accepts them as a manifest.
+abbrev pub IsAccepted : List ℕ → Type 0
+IsAccepted bytes = refusal bytes ≡ None
 
 -- nothing is wrong with the header, which has this size
 pub record HeaderIs (bytes : List ℕ) (size : ℕ) : Type 0 where

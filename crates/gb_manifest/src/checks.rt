@@ -9,17 +9,13 @@ ghost use Rattle.gb_manifest.specs.Met.{AreDeclared, AreUndeclared};
 ghost use Rattle.gb_manifest.specs.Walks.{walk_of};
 
 use crate::declared::Declared;
-use crate::descriptors::Descriptors;
-use crate::manifest::Manifest;
+use crate::manifest::{HEADER, Manifest};
 use crate::refusal::Refused;
 use crate::rules::rules_refusal;
 use crate::undeclared::Undeclared;
 use crate::walk::Walk;
 use byteorder::{ByteOrder, LittleEndian};
 use gb_base::Reason;
-
-/// How many bytes a manifest's header has.
-const HEADER: usize = 4;
 
 /// The manifest that the bytes are, or where and why they aren't one.
 pub fn check(bytes: &[u8]) -> Result<Manifest<'_>, Refused>
@@ -51,7 +47,7 @@ fn checked(bytes: &[u8]) -> Result<Manifest<'_>, Refused>
     let undeclared = undeclared(walk, &declared);
     match rules_refusal(size as u32, &declared, &undeclared) {
         Some(refused) => Err(refused),
-        None => Ok(Manifest::new(bytes[3], size, Descriptors::new(walk))),
+        None => Ok(Manifest::accepted(bytes)),
     }
 }
 

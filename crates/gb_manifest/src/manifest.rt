@@ -1,12 +1,19 @@
 //! Manifests that were checked.
 
-ghost use Rattle.std.specs.Prelude.{◌≡◌, ◌<◌, option_map};
+ghost use Rattle.std.specs.Prelude.{◌≡◌, ◌<◌, Ok, option_map};
 ghost use Rattle.gb_formats.specs.Manifest as formats;
+ghost use Rattle.gb_formats.specs.Manifest.{check_answer};
+ghost use Rattle.gb_manifest.specs.Checks.{IsAccepted};
 ghost use Rattle.gb_manifest.specs.Values.{SaysOfCport, descriptor_of, view_of};
 
 use crate::descriptor::Descriptor;
 use crate::descriptors::Descriptors;
+use crate::walk::Walk;
+use byteorder::{ByteOrder, LittleEndian};
 use std::marker::Model;
+
+/// How many bytes a manifest's header has.
+pub(crate) const HEADER: usize = 4;
 
 /// A CPort's bundle and protocol.
 #[derive(Clone, Copy, Debug, PartialEq, Eq)]
@@ -34,14 +41,18 @@ impl<'a> Model for Manifest<'a> {
 }
 
 impl<'a> Manifest<'a> {
-    /// A manifest of these parts.
-    pub(crate) fn new(minor: u8, size: u16, descriptors: Descriptors<'a>) -> Manifest<'a>
-        ensures { result ≡ record { minor = minor; size = size; descriptors = descriptors.entry } }
+    /// The manifest of bytes that a check accepted. They aren't checked again.
+    pub fn accepted(bytes: &'a [u8]) -> Manifest<'a>
+        requires { IsAccepted bytes.now }
+        ensures { check_answer bytes.now ≡ Ok result }
     {
+        let size = LittleEndian::read_u16(bytes);
+        let (_, rest) = bytes.split_at(HEADER);
+        let walk = Walk::new(HEADER as u32, rest);
         Manifest {
-            minor,
+            minor: bytes[3],
             size,
-            descriptors,
+            descriptors: Descriptors::new(walk),
         }
     }
 

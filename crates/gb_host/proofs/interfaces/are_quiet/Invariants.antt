@@ -1,6 +1,6 @@
 -- All are quiet where those not looked at yet are.
 use Rattle.std.proofs.Common.{drop}
-use Rattle.gb_host.specs.Quiet.{AreQuiet}
+use Rattle.gb_host.specs.Known.{AreQuiet}
 use Rattle.gb_host.proofs.interfaces.are_quiet.Given as goal
 
 abbrev pub invariant-loop-interface : goal.invariant-loop-interface

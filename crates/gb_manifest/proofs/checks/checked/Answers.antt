@@ -1,9 +1,10 @@
 use Rattle.std.proofs.Common.{◌≡◌, Some, None, length, option_map, sym, ap, ◌∙◌}
 use Rattle.std.proofs.lemmas.Result.{err_from_is_err_and}
+use Rattle.gb_formats.specs.Manifest.{refusal_in}
 use Rattle.gb_formats.specs.ManifestRules.{rules_refusal}
 use Rattle.gb_manifest.specs.Values.{refused_of}
-use Rattle.gb_manifest.specs.Walks.{descriptors_in, walk_from}
-use Rattle.gb_manifest.proofs.Checked.{answer_descriptor, answer_rules, manifest_is}
+use Rattle.gb_manifest.specs.Walks.{walk_from}
+use Rattle.gb_manifest.proofs.Checked.{answer_descriptor, answer_rules}
 use Rattle.gb_manifest.proofs.checks.checked.Goals as goal
 
 pub returns-in_err-gather : goal.returns-in_err-gather
@@ -31,8 +32,8 @@ returns-in-Some c =
     ap (λ n. rules_refusal n all) (sym header.size_is) ∙ sym ruled ∙ found in
     answer_rules c.args.bytes.now all _ header.sound (walk_is ∙ declares.whole) broken
 
-pub returns-in-None : goal.returns-in-None
-returns-in-None c =
+pub accepted-requires : goal.accepted-requires
+accepted-requires c =
     let walk_is =
     ap (λ xs. walk_from 4 xs) (sym c.split_at.ensures.back) ∙ sym c.new-walk.ensures in
     let header = c.in_ok-size.ensures in
@@ -44,6 +45,5 @@ returns-in-None c =
     ap (λ r. option_map refused_of r) c.in-None.is in
     let broken : rules_refusal (length c.args.bytes.now) all ≡ None =
     ap (λ n. rules_refusal n all) (sym header.size_is) ∙ sym ruled ∙ found in
-    answer_rules c.args.bytes.now all _ header.sound (walk_is ∙ declares.whole) broken
-    ∙ manifest_is _ _ _ _ _ header.size_is (c.new.ensures ∙ ap descriptors_in declares.whole)
-    c.new-in-None.ensures
+    ap refusal_in
+    (answer_rules c.args.bytes.now all _ header.sound (walk_is ∙ declares.whole) broken)

@@ -9,10 +9,10 @@ pub returns-in-Some : goal.returns-in-Some
 returns-in-Some c =
     one-back (is_intf c.args.intf) (interface_awaits None) (interface_awaits
     c.in-Some.interface.now.awaits) c.args.self.now (option_copied c.at.result)
-    c.in-Some.interface.now (λ x. refl) c.at.ensures (ap option_copied c.in-Some.is) refl
+    c.in-Some.interface.now (λ x. refl) c.at.ensures.found (ap option_copied c.in-Some.is) refl
 
 pub returns-in-None : goal.returns-in-None
 returns-in-None c =
     none-back (is_intf c.args.intf) (interface_awaits None) (interface_awaits None) c.args.self.now
-    (option_copied c.at.result) (λ x. refl) c.at.ensures
+    (option_copied c.at.result) (λ x. refl) c.at.ensures.found
     (ap option_copied c.in-None.is)

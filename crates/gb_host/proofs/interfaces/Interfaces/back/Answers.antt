@@ -10,13 +10,13 @@ pub returns-in_default : goal.returns-in_default
 returns-in_default c =
     none-back (is_intf c.args.intf) (changed c.args.change) (changed c.args.change) c.args.self.now
     (option_copied c.at.result)
-    (changed-keeps c.args.intf c.args.change) c.at.ensures (ap option_copied c.in_default.is)
+    (changed-keeps c.args.intf c.args.change) c.at.ensures.found (ap option_copied c.in_default.is)
 
 pub returns-in-Device : goal.returns-in-Device
 returns-in-Device c =
     changed-back c.args.intf c.args.change (change.Device c.in-Some.interface.now.device)
     c.args.self.now (option_copied c.at.result) c.in-Some.interface.now
-    c.at.ensures (ap option_copied c.in-Some.is) (subst (λ k. changed (change.Device
+    c.at.ensures.found (ap option_copied c.in-Some.is) (subst (λ k. changed (change.Device
     c.in-Some.interface.now.device) (changed k c.in-Some.interface.now)
     ≡ c.in-Some.interface.now) (sym c.in-Device.is) refl)
 
@@ -24,7 +24,7 @@ pub returns-in-HasDevice : goal.returns-in-HasDevice
 returns-in-HasDevice c =
     changed-back c.args.intf c.args.change (change.HasDevice c.in-Some.interface.now.has_device)
     c.args.self.now (option_copied c.at.result) c.in-Some.interface.now
-    c.at.ensures (ap option_copied c.in-Some.is) (subst (λ k. changed (change.HasDevice
+    c.at.ensures.found (ap option_copied c.in-Some.is) (subst (λ k. changed (change.HasDevice
     c.in-Some.interface.now.has_device) (changed k c.in-Some.interface.now)
     ≡ c.in-Some.interface.now) (sym c.in-HasDevice.is) refl)
 
@@ -32,6 +32,6 @@ pub returns-in-Size : goal.returns-in-Size
 returns-in-Size c =
     changed-back c.args.intf c.args.change (change.Size c.in-Some.interface.now.size)
     c.args.self.now (option_copied c.at.result) c.in-Some.interface.now
-    c.at.ensures (ap option_copied c.in-Some.is) (subst (λ k. changed (change.Size
+    c.at.ensures.found (ap option_copied c.in-Some.is) (subst (λ k. changed (change.Size
     c.in-Some.interface.now.size) (changed k c.in-Some.interface.now)
     ≡ c.in-Some.interface.now) (sym c.in-Size.is) refl)

@@ -1,8 +1,8 @@
 -- The interfaces that stay are the others.
 use Rattle.std.proofs.Common.{not, rules, ap, sym, subst, ◌∙◌}
 use Rattle.std.proofs.lemmas.Fn.{filter_same}
-use Rattle.gb_host.proofs.Quiet.{quiet-filter}
-use Rattle.gb_host.specs.Quiet.{AreQuiet}
+use Rattle.gb_host.proofs.Known.{kept-filter}
+use Rattle.gb_host.specs.Known.{AreKept}
 use Rattle.gb_host.proofs.interfaces.Interfaces.remove.Goals as goal
 use Rattle.gb_machine.specs.Host.{is_intf}
 use Rattle.gb_machine.specs.Lists.{without}
@@ -14,8 +14,7 @@ returns c =
     ∙ ap (without (is_intf c.args.intf)) c.self.view_is
 
 pub invariant_of-self : goal.invariant_of-self
-invariant_of-self c = λ says.
-    subst AreQuiet (sym (filter_same _ (λ y. not (is_intf c.args.intf y)) _
+invariant_of-self c =
+    subst (AreKept _) (sym (filter_same _ (λ y. not (is_intf c.args.intf y)) _
     (λ x b f' k. search rules) _ _ c.retain.ensures.filtered))
-    (quiet-filter (λ y. not (is_intf c.args.intf y)) c.self.inside.known.items
-    (c.self.invariant says))
+    (kept-filter _ (λ y. not (is_intf c.args.intf y)) c.self.inside.known.items c.self.invariant)

@@ -4,7 +4,7 @@ use Rattle.gb_host.proofs.Changing.{none-changes, one-changes}
 use Rattle.gb_machine.specs.Host.{is_intf}
 use Rattle.gb_host.specs.Changes.{changed}
 use Rattle.gb_host.specs.declared.interfaces.Change.TheVariants as change
-use Rattle.gb_host.proofs.Quiet.{quiet-set}
+use Rattle.gb_host.proofs.Known.{kept-set}
 use Rattle.gb_host.proofs.interfaces.Interfaces.set_has_device.Goals as goal
 
 pub returns-in-Some : goal.returns-in-Some
@@ -19,6 +19,6 @@ returns-in_default c = none-changes (is_intf c.args.intf) c.args.self.now c.inde
     (change.HasDevice c.args.has_device)) c.index.ensures.first c.in_default.is
 
 pub invariant_of-self : goal.invariant_of-self
-invariant_of-self c = λ says.
-    quiet-set c.self.inside.known.items c.in-Some.i c.index_mut.result.now _
-    c.index_mut.ensures.value refl (c.self.invariant says)
+invariant_of-self c =
+    kept-set _ c.self.inside.known.items c.in-Some.i c.index_mut.result.now _
+    c.index_mut.ensures.value refl refl c.self.invariant

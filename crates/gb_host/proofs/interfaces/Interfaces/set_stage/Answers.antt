@@ -2,7 +2,7 @@
 use Rattle.std.proofs.Common.{refl}
 use Rattle.gb_host.proofs.Changing.{none-changes, one-changes}
 use Rattle.gb_machine.specs.Host.{is_intf, staged}
-use Rattle.gb_host.proofs.Quiet.{quiet-set}
+use Rattle.gb_host.proofs.Known.{kept-set}
 use Rattle.gb_host.proofs.interfaces.Interfaces.set_stage.Goals as goal
 
 pub returns-in-Some : goal.returns-in-Some
@@ -16,6 +16,6 @@ returns-in_default c = none-changes (is_intf c.args.intf) c.args.self.now c.inde
     c.args.to) c.index.ensures.first c.in_default.is
 
 pub invariant_of-self : goal.invariant_of-self
-invariant_of-self c = λ says.
-    quiet-set c.self.inside.known.items c.in-Some.i c.index_mut.result.now _
-    c.index_mut.ensures.value refl (c.self.invariant says)
+invariant_of-self c =
+    kept-set _ c.self.inside.known.items c.in-Some.i c.index_mut.result.now _
+    c.index_mut.ensures.value refl refl c.self.invariant
