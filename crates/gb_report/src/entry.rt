@@ -6,9 +6,9 @@ ghost use Rattle.gb_formats.specs.Texts.{IsWordOf, entry_line};
 ghost use Rattle.gb_base.specs.Groups.{is_device, is_link, is_message, is_raw, is_request};
 
 use crate::digits::{Digits, Hex};
-use crate::names::{lost_mark, reason_name, refusal_name, stage_name, state_name};
+use crate::names::{reason_name, refusal_name, stage_name, state_name};
 use crate::part::{Part, parts};
-use crate::parts::{Downloaded, Dropped, Item, Size, Way};
+use crate::parts::{Downloaded, Dropped, Item, Lost, Reply, Size, Way};
 use gb_base::{Entry, OutOfMemory};
 use std::str;
 
@@ -80,13 +80,12 @@ fn append_message(entry: &Entry, hex: bool, out: &mut String) -> Result<(), OutO
             parts!(
                 "ask #",
                 number,
-                " ",
                 way,
                 " type ",
                 Hex(*kind),
                 " size ",
                 size,
-                lost_mark(*lost)
+                Lost(*lost)
             )
             .append_to(out)
         }
@@ -98,23 +97,13 @@ fn append_message(entry: &Entry, hex: bool, out: &mut String) -> Result<(), OutO
             size,
             bytes,
         } => {
-            let (item, way) = (Item(*number), Way(*from, *to));
+            let (reply, way) = (Reply(*number), Way(*from, *to));
             let size = Size {
                 hex,
                 size: *size,
                 bytes,
             };
-            parts!(
-                "reply ",
-                item,
-                " ",
-                way,
-                " result ",
-                Hex(*code),
-                " size ",
-                size
-            )
-            .append_to(out)
+            parts!(reply, way, " result ", Hex(*code), " size ", size).append_to(out)
         }
         _ => unreachable!(),
     }
@@ -132,7 +121,7 @@ fn append_request(entry: &Entry, out: &mut String) -> Result<(), OutOfMemory>
             number,
             outcome,
             reading,
-        } => parts!("end #", number, " ", outcome, reading).append_to(out),
+        } => parts!("end #", number, outcome, reading).append_to(out),
         Entry::Late { number } => parts!("late #", number).append_to(out),
         Entry::Dropped { number, reply } => {
             parts!("drop ", Dropped(*number, *reply)).append_to(out)
@@ -162,7 +151,7 @@ fn append_raw(entry: &Entry, hex: bool, out: &mut String) -> Result<(), OutOfMem
                 size: *size,
                 bytes,
             };
-            parts!("raw ", way, " size ", size).append_to(out)
+            parts!("raw", way, " size ", size).append_to(out)
         }
         Entry::BadRaw { fault } => parts!("bad raw ", fault).append_to(out),
         Entry::LateLabel { label } => parts!("late label ", label).append_to(out),

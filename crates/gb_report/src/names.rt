@@ -2,7 +2,7 @@
 
 ghost use Rattle.std.specs.Prelude.{◌≡◌};
 ghost use Rattle.gb_formats.specs.Reasons.{reason_text, refusal_text};
-ghost use Rattle.gb_formats.specs.Texts.{lost_text, stage_text, state_text};
+ghost use Rattle.gb_formats.specs.Texts.{stage_text, state_text};
 
 use gb_base::{ConnState, IntfStage, Reason, Refusal};
 
@@ -82,11 +82,4 @@ pub fn state_name(state: ConnState) -> &'static str
         ConnState::Closed => "closed",
         ConnState::Failed => "failed",
     }
-}
-
-/// What is behind an ask that is lost.
-pub fn lost_mark(lost: bool) -> &'static str
-    ensures { result.now ≡ lost_text lost }
-{
-    if lost { " lost" } else { "" }
 }

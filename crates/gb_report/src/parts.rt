@@ -9,34 +9,56 @@ use crate::part::{Part, parts};
 use gb_base::{Bytes, End, LineReason, OutOfMemory, Outcome, RawFault, Reading, WireFault};
 use gb_payload::SUCCESS;
 
-/// An end, shown as `svc`, `ap A` or `I C`.
+/// An end with the space before it, shown as ` svc`, ` ap A` or ` I C`.
 impl Part for End {
+    ghost use Rattle.std.specs.Prelude.{◌++◌, codes};
     ghost use Rattle.gb_formats.specs.Texts.{end_text};
 
-    ghost text = { end_text };
+    ghost text = { λ e. codes " " ++ end_text e };
 
     #[inline(always)]
     fn append_to(&self, line: &mut String) -> Result<(), OutOfMemory> {
         match self {
-            End::Ap(a) => parts!("ap ", a).append_to(line),
-            End::Svc => "svc".append_to(line),
-            End::Module { intf, cport } => parts!(intf, " ", cport).append_to(line),
+            End::Ap(a) => parts!(" ap ", a).append_to(line),
+            End::Svc => " svc".append_to(line),
+            End::Module { intf, cport } => parts!(" ", intf, " ", cport).append_to(line),
         }
     }
 }
 
-/// The way of a message, shown as `FROM > TO`.
+/// The end that a message goes to, shown as ` > svc`, ` > ap A` or ` > I C`.
+#[derive(Clone, Copy)]
+struct Receiver(End);
+
+impl Part for Receiver {
+    ghost use Rattle.std.specs.Prelude.{◌++◌, codes};
+    ghost use Rattle.gb_formats.specs.Texts.{end_text};
+
+    ghost text = { λ r. codes " > " ++ end_text r.0 };
+
+    #[inline(always)]
+    fn append_to(&self, line: &mut String) -> Result<(), OutOfMemory> {
+        match self.0 {
+            End::Ap(a) => parts!(" > ap ", a).append_to(line),
+            End::Svc => " > svc".append_to(line),
+            End::Module { intf, cport } => parts!(" > ", intf, " ", cport).append_to(line),
+        }
+    }
+}
+
+/// The way of a message with the space before it, shown as ` FROM > TO`.
 #[derive(Clone, Copy)]
 pub struct Way(pub End, pub End);
 
 impl Part for Way {
+    ghost use Rattle.std.specs.Prelude.{◌++◌, codes};
     ghost use Rattle.gb_formats.specs.Texts.{way_text};
 
-    ghost text = { λ w. way_text w.0 w.1 };
+    ghost text = { λ w. codes " " ++ way_text w.0 w.1 };
 
     #[inline(always)]
     fn append_to(&self, line: &mut String) -> Result<(), OutOfMemory> {
-        parts!(&self.0, " > ", &self.1).append_to(line)
+        parts!(&self.0, Receiver(self.1)).append_to(line)
     }
 }
 
@@ -54,6 +76,25 @@ impl Part for Item {
         match self.0 {
             Some(n) => parts!("#", n).append_to(line),
             None => "raw".append_to(line),
+        }
+    }
+}
+
+/// The number of a reply, shown as `reply #N`, and as `reply raw` where there is none.
+#[derive(Clone, Copy)]
+pub struct Reply(pub Option<u64>);
+
+impl Part for Reply {
+    ghost use Rattle.std.specs.Prelude.{◌++◌, codes};
+    ghost use Rattle.gb_formats.specs.Texts.{item_text};
+
+    ghost text = { λ r. codes "reply " ++ item_text r.0 };
+
+    #[inline(always)]
+    fn append_to(&self, line: &mut String) -> Result<(), OutOfMemory> {
+        match self.0 {
+            Some(n) => parts!("reply #", n).append_to(line),
+            None => "reply raw".append_to(line),
         }
     }
 }
@@ -101,11 +142,31 @@ impl<'a> Part for Size<'a> {
     }
 }
 
-/// How a request ended.
+/// The mark behind an ask that is lost, shown as ` lost`, and as nothing where it isn't.
+#[derive(Clone, Copy)]
+pub struct Lost(pub bool);
+
+impl Part for Lost {
+    ghost use Rattle.gb_formats.specs.Texts.{lost_text};
+
+    ghost text = { λ l. lost_text l.0 };
+
+    #[inline(always)]
+    fn append_to(&self, line: &mut String) -> Result<(), OutOfMemory> {
+        if self.0 {
+            " lost".append_to(line)
+        } else {
+            Ok(())
+        }
+    }
+}
+
+/// How a request ended, with the space before it.
 impl Part for Outcome {
+    ghost use Rattle.std.specs.Prelude.{◌++◌, codes};
     ghost use Rattle.gb_formats.specs.Texts.{outcome_text};
 
-    ghost text = { outcome_text };
+    ghost text = { λ o. codes " " ++ outcome_text o };
 
     fn append_to(&self, line: &mut String) -> Result<(), OutOfMemory> {
         match self {
@@ -113,13 +174,17 @@ impl Part for Outcome {
                 result: code,
                 payload,
             } => {
-                let answer = Digits(answer_of(*code, payload));
-                parts!("answered ", Hex(*code), " ", answer).append_to(line)
+                let answer = answer_of(*code, payload);
+                if answer.is_empty() {
+                    parts!(" answered ", Hex(*code), " -").append_to(line)
+                } else {
+                    parts!(" answered ", Hex(*code), " ", Digits(answer)).append_to(line)
+                }
             }
-            Outcome::Cancelled => "cancelled".append_to(line),
-            Outcome::Timeout => "timeout".append_to(line),
-            Outcome::Disconnected => "disconnected".append_to(line),
-            Outcome::Sent => "sent".append_to(line),
+            Outcome::Cancelled => " cancelled".append_to(line),
+            Outcome::Timeout => " timeout".append_to(line),
+            Outcome::Disconnected => " disconnected".append_to(line),
+            Outcome::Sent => " sent".append_to(line),
         }
     }
 }

@@ -121,7 +121,6 @@ pub fn connection_line(
             number,
             " ap ",
             ap,
-            " ",
             peer,
             " protocol ",
             protocol,
@@ -137,7 +136,7 @@ pub fn connection_line(
 pub fn queue_line(alloc: Global, at: End, count: u64) -> Result<Text, OutOfMemory>
     ensures { IfOk result (λ t. t ≡ queue_line at count) }
 {
-    let line = line_of(alloc, &parts!("queue ", at, " ", count))?;
+    let line = line_of(alloc, &parts!("queue", at, " ", count))?;
     text_of(alloc, &line)
 }
 
