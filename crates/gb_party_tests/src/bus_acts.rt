@@ -196,7 +196,7 @@ fn shuts(rt: &impl Abort, alloc: Global, bus: &mut Bus, k: u64) -> Seen {
     numbers(&told)
 }
 
-fn wires(rt: &impl Abort, bus: &mut Bus, k: u64) -> Seen {
+fn wires(bus: &mut Bus, k: u64) -> Seen {
     bus.wire(k);
     Seen::Done
 }
@@ -231,7 +231,7 @@ fn comes_of(rt: &impl Abort, alloc: Global, bus: &mut Bus, act: Act) -> Seen {
         Act::Keep(n) => keeps(bus, n),
         Act::Loose(n) => looses(bus, n),
         Act::About(n) => tells_about(bus, n),
-        Act::Wire(k) => wires(rt, bus, k),
+        Act::Wire(k) => wires(bus, k),
         Act::Unwire(k) => unwires(rt, alloc, bus, k),
         Act::Shut(k) => shuts(rt, alloc, bus, k),
         Act::Waiting(at) => bus.waiting(at).map_or(Seen::Nothing, Seen::Count),

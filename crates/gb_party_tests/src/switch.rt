@@ -1,7 +1,6 @@
-//! Rows of the power sequence, whose expected values are those of its table, and of queues.
+//! Rows of the power sequence, whose expected values are those of its table.
 
-use gb_base::End;
-use gb_switch::{Ladder, NotReady, NotRouted, Place, Queue, Rung, Waiting};
+use gb_switch::{Ladder, NotReady, NotRouted, Rung};
 use std::process::Abort;
 
 const DONE: Result<(), NotReady> = Ok(());
@@ -132,53 +131,4 @@ fn nothing_is_plugged_elsewhere(rt: HostRuntime) {
     for intf in [0, 1, 3, 31, 32, 40, 255] {
         is_empty(&rt, &mut ladder, intf);
     }
-}
-
-/// CPort 1 of interface 2.
-const NEAR: End = End::Module { intf: 2, cport: 1 };
-
-/// CPort 1 of interface 3.
-const FAR: End = End::Module { intf: 3, cport: 1 };
-
-#[test]
-fn items_leave_in_the_order_in_which_they_came(rt: HostRuntime) {
-    let (mut queue, mut waiting) = (Queue::new(rt.alloc()), Waiting::new(rt.alloc()));
-    let at = Place::of(NEAR);
-    for item in [5u8, 7, 5].iter() {
-        queue.push(*item, at, &mut waiting).expect(&rt, "memory");
-    }
-    assert!(&rt; queue.len() == 3);
-    for item in [5u8, 7, 5].iter() {
-        assert!(&rt; waiting.first() == Some(at), "it is marked while one waits");
-        assert!(&rt; queue.pop(at, &mut waiting) == Some(*item));
-    }
-    assert!(&rt; queue.pop(at, &mut waiting) == None);
-    assert!(&rt; waiting.first() == None, "it isn't marked any more");
-}
-
-/// Something waits at these ends.
-fn mark(rt: &impl Abort, waiting: &mut Waiting, ends: &[End]) {
-    for at in ends.iter() {
-        waiting.add(Place::of(*at)).expect(rt, "memory");
-    }
-}
-
-/// These are the ends where something waits, in order, and there are no more than that.
-fn unmark(rt: &impl Abort, waiting: &mut Waiting, order: &[End]) {
-    for at in order.iter() {
-        assert!(rt; waiting.first() == Some(Place::of(*at)));
-        waiting.remove(Place::of(*at));
-    }
-    assert!(rt; waiting.first() == None);
-}
-
-#[test]
-fn ends_are_settled_in_order(rt: HostRuntime) {
-    let mut waiting = Waiting::new(rt.alloc());
-    let ends = [FAR, End::Ap(300), NEAR, End::Ap(7), End::Svc, End::Ap(0)];
-    mark(&rt, &mut waiting, &ends);
-    let order = [End::Svc, End::Ap(0), End::Ap(7), End::Ap(300), NEAR, FAR];
-    let listed = waiting.ends(rt.alloc()).expect(&rt, "memory");
-    assert!(&rt; listed.items() == order);
-    unmark(&rt, &mut waiting, &order);
 }
