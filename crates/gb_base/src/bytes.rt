@@ -68,7 +68,7 @@ impl Bytes {
 
     /// Few bytes. Those of a length up to four are laid for that length, which costs less than a
     /// copy of any length.
-    #[inline(never)]
+    #[inline(always)]
     fn few(alloc: Global, bytes: &[u8]) -> Bytes
         requires { AreFew bytes.now }
         ensures { result ≡ bytes.now }

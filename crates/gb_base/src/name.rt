@@ -3,8 +3,6 @@
 ghost use Rattle.std.specs.Prelude.{
   ◌≡◌,
   ◌≤◌,
-  ◌<◌,
-  ℕ,
   if◌then◌else◌,
   Some,
   None,
@@ -12,7 +10,6 @@ ghost use Rattle.std.specs.Prelude.{
   IsAscii,
   IsTrue,
   length,
-  slice_index,
   ⊤,
 };
 ghost use Rattle.std.specs.Cmp.{partial_equiv_from_equiv};

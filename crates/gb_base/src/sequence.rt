@@ -1,7 +1,7 @@
 //! The growing list of the public surface. A contract sees it as the list of its members.
 
 ghost use Rattle.std.specs.Prelude.{◌≡◌, ◌≤◌, [], ◌∷◌, ◌++◌, OnOk, OnErr, IfOk, IsOk, ⊤};
-ghost use Rattle.std.specs.Prelude.{insert, length};
+ghost use Rattle.std.specs.Prelude.{MatchOption, insert, length, reverse};
 
 use crate::OutOfMemory;
 use std::alloc::Global;
@@ -69,6 +69,21 @@ impl<T: Drop> Sequence<T> {
         ensures { self.new ≡ [] }
     {
         self.members.clear();
+    }
+
+    /// The members stand in the opposite order from now on.
+    pub fn reverse(&mut self)
+        ensures { self.new ≡ reverse self.old }
+    {
+        self.members.reverse();
+    }
+
+    /// Takes the last member. None comes where there is none.
+    pub fn pop(&mut self) -> Option<T>
+        ensures { MatchOption result ((self.old ≡ []) × (self.new ≡ []))
+            (λ m. self.old ≡ self.new ++ m ∷ []) }
+    {
+        self.members.pop()
     }
 
     /// Adds a member in front of that at `place`, or at the end where `place` is the length. After
