@@ -93,14 +93,13 @@ impl Maker {
         ensures ok { OnOk result (self.new ≡ further self.old) }
         ensures err { OnErr result (self.new ≡ self.old) }
     {
-        let event = self.coming(alloc);
-        if event.is_ok() {
-            self.pass();
-        }
-        event
+        let event = self.coming(alloc)?;
+        self.pass();
+        Ok(event)
     }
 
     /// The event that comes next.
+    #[inline(always)]
     fn coming(&self, alloc: Global) -> Result<Event, OutOfMemory>
         requires { self.now.given < made_lines }
         ensures { IfOk result (λ e. e ≡ made self.now.seed (self.now.given + 1)) }
@@ -148,6 +147,7 @@ struct Generator {
 
 impl Generator {
     /// Line `k` of those that are drawn, 1 to 20,000, by the generator behind the line before it.
+    #[inline(always)]
     fn drawn(self, alloc: Global, k: u32) -> Result<Event, OutOfMemory>
         requires small { self.number < 2147483648 }
         requires named { self.named ≤ 20000 }

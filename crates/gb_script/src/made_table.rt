@@ -1,13 +1,12 @@
 //! The lines of a made script that are drawn.
 
-ghost use Rattle.std.specs.Prelude.{◌≡◌, ◌≤◌, ◌+◌, ◌/◌, ◌%◌, [], ◌∷◌, IfOk};
+ghost use Rattle.std.specs.Prelude.{◌≡◌, ◌≤◌, ◌+◌, ◌/◌, ◌%◌, [], ◌∷◌, IfOk, Some};
 ghost use Rattle.gb_base.specs.declared.bridge.BridgeAsk.TheVariants as ask;
 ghost use Rattle.gb_base.specs.declared.bridge.I2cOp.TheVariants as i2c;
 ghost use Rattle.gb_base.specs.declared.event.Event.TheVariants as event;
 ghost use Rattle.gb_formats.specs.I2cDevice.{i2c_address};
 ghost use Rattle.gb_formats.specs.Made.{made_by, made_name};
 
-use arrayvec::ArrayString;
 use gb_base::{BridgeAsk, Bytes, End, Event, I2cOp, I2cOps, Name, OutOfMemory, Word};
 use gb_bridge_payload::gpio_kinds::ACTIVATE;
 use std::alloc::Global;
@@ -38,6 +37,7 @@ fn value(draw: u64) -> u8
 
 /// Line `k` of the table, by what is drawn for it. Line `named` is the last before it that
 /// names a request.
+#[inline(always)]
 pub fn by_row(alloc: Global, k: u32, named: u32, draw: u64) -> Result<Event, OutOfMemory>
     requires line { k ≤ 20000 }
     requires named { named ≤ 20000 }
@@ -126,12 +126,50 @@ fn name(k: u32) -> Name
     requires { k ≤ 20000 }
     ensures { result ≡ made_name k }
 {
-    let mut digits = itoa::Buffer::new();
-    let mut text = ArrayString::<16>::new();
-    text.push('n');
-    text.push_str(digits.format(k));
-    let Some(word) = Word::from_bytes(text.as_str().as_bytes()) else {
-        unreachable!()
-    };
+    let Some(word) = word(k) else { unreachable!() };
     Name { who: 0, word }
+}
+
+/// The word of that name, by its digits: at most five.
+fn word(k: u32) -> Option<Word>
+    requires { k ≤ 20000 }
+    ensures { result ≡ Some (made_name k).word }
+{
+    let tens = k / 10;
+    if tens == 0 {
+        return Word::from_bytes(&[b'n', digit(k)]);
+    }
+    let hundreds = tens / 10;
+    if hundreds == 0 {
+        return Word::from_bytes(&[b'n', digit(tens), digit(k)]);
+    }
+    let thousands = hundreds / 10;
+    if thousands == 0 {
+        return Word::from_bytes(&[b'n', digit(hundreds), digit(tens), digit(k)]);
+    }
+    let ten_thousands = thousands / 10;
+    if ten_thousands == 0 {
+        return Word::from_bytes(&[
+            b'n',
+            digit(thousands),
+            digit(hundreds),
+            digit(tens),
+            digit(k),
+        ]);
+    }
+    Word::from_bytes(&[
+        b'n',
+        digit(ten_thousands),
+        digit(thousands),
+        digit(hundreds),
+        digit(tens),
+        digit(k),
+    ])
+}
+
+/// The byte of a number's last digit.
+fn digit(number: u32) -> u8
+    ensures { result ≡ 48 + number % 10 }
+{
+    b'0' + (number % 10) as u8
 }
