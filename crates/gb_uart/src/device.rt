@@ -18,6 +18,9 @@ use std::marker::Model;
 /// The most bytes that one request may send.
 pub const MOST_SENT: usize = 2037;
 
+/// How many bytes of a payload take no memory.
+const FEW: usize = 16;
+
 /// The UART device of a module (Greybus Specification, "UART Protocol"): an echo, which sends back
 /// what it is sent. It keeps nothing between requests.
 #[derive(Drop)]
@@ -136,15 +139,40 @@ impl Device {
         ensures same { IfOk result (λ own. own ≡ formats.uart_own (uart_ask_of ask.entry)) }
         ensures few { AreFew (uart_ask_payload (uart_ask_of ask.entry)) → IsOk result }
     {
+        Ok(OwnAsk {
+            kind: ask.kind(),
+            payload: self.payload(ask)?,
+            oneway: false,
+        })
+    }
+
+    /// The payload of a request. Few bytes take no memory.
+    fn payload(&self, ask: UartAsk<'_>) -> Result<Bytes, OutOfMemory>
+        requires record { IsUartAsk (uart_ask_of ask) }
+        requires room { length (uart_ask_payload (uart_ask_of ask)) ≤ most_payload }
+        ensures same { IfOk result (λ bytes. bytes ≡ uart_ask_payload (uart_ask_of ask.entry)) }
+        ensures few { AreFew (uart_ask_payload (uart_ask_of ask.entry)) → IsOk result }
+    {
+        let mut places = [0; FEW];
+        match ask.write(&mut places) {
+            Ok(count) => Ok(Bytes::from_front(self.alloc, places, count)),
+            Err(_) => self.long_payload(ask),
+        }
+    }
+
+    /// The payload of a request that has more than few bytes.
+    #[inline(never)]
+    fn long_payload(&self, ask: UartAsk<'_>) -> Result<Bytes, OutOfMemory>
+        requires record { IsUartAsk (uart_ask_of ask) }
+        requires room { length (uart_ask_payload (uart_ask_of ask)) ≤ most_payload }
+        ensures { IfOk result (λ bytes. bytes ≡ uart_ask_payload (uart_ask_of ask.entry)) }
+    {
         let mut out = [0; MOST_PAYLOAD];
         let Ok(size) = ask.write(&mut out) else {
             unreachable!()
         };
-        Ok(OwnAsk {
-            kind: ask.kind(),
-            payload: Bytes::from_slice(self.alloc, &out[..size])?,
-            oneway: false,
-        })
+        let bytes = Bytes::from_slice(self.alloc, &out[..size])?;
+        Ok(bytes)
     }
 }
 
