@@ -1,4 +1,3 @@
-pub mod KindManifests
 pub mod Loading
 pub mod Standing
 pub mod Stepping

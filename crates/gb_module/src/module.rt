@@ -6,12 +6,14 @@ ghost use Rattle.gb_formats.specs.Module.{cport_state, module_of_kind, module_ra
 ghost use Rattle.gb_formats.specs.ModuleSteps.{module_serve, module_stir};
 ghost use Rattle.gb_formats.specs.Results.{most_payload};
 ghost use Rattle.gb_module.specs.Few.{FewSucceed, whole_answer};
+ghost use Rattle.gb_module.specs.Steps.{with_ports};
 ghost use Rattle.gb_module.specs.Stirring.{IsStir, StirsAs};
 ghost use Rattle.gb_module.specs.Views.{cport_state_of, stir_of};
 
 use crate::cport_state::CportState;
 use crate::declared::declared_ports;
 use crate::kinds;
+use crate::port::Port;
 use crate::ports::Ports;
 use crate::stir::{Stir, StirFault};
 use gb_base::{Bytes, Kind, OutOfMemory, OwnAsks, Served};
@@ -46,7 +48,8 @@ impl Module {
     pub fn of_kind(alloc: Global, kind: Kind) -> Result<Module, OutOfMemory>
         ensures { IfOk result (λ made. made ≡ module_of_kind kind) }
     {
-        Module::raw(alloc, kinds::manifest(kind))
+        let ports = kinds::ports(alloc, kind)?;
+        Module::of(alloc, kinds::manifest(kind), ports)
     }
 
     /// A module with these bytes as its manifest, at most 2,040, and with all CPorts off. Where the
@@ -57,6 +60,14 @@ impl Module {
         ensures { IfOk result (λ made. made ≡ module_raw manifest.now) }
     {
         let ports = declared_ports(alloc, manifest)?;
+        Module::of(alloc, manifest, ports)
+    }
+
+    /// A module with this manifest and these CPorts.
+    fn of(alloc: Global, manifest: &[u8], ports: Vec<Port>) -> Result<Module, OutOfMemory>
+        requires { length manifest.now ≤ most_payload }
+        ensures { IfOk result (λ made. made ≡ with_ports manifest.now ports.items) }
+    {
         Ok(Module {
             alloc,
             manifest: Bytes::from_slice(alloc, manifest)?,
