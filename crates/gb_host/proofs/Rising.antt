@@ -178,6 +178,20 @@ past-point k ls i e rises point within other = none-of k ls 0 (λ j d h. by j d 
         same) (omega (arith, more, most)) in
         grind (arith, nat_tests)
 
+-- none has a number below the first
+pub below-first : (k : ℕ) (live ls : List Link) (d : Link) → live ≡ ls
+    → k < (get_or live 0 d).connection
+    → Rises ls → position_from (λ l. l.connection == k) 0 ls ≡ None
+below-first k live ls d same says rises = none-of k ls 0 (λ j e h.
+    let less : k < (get_or ls 0 d).connection =
+    subst (λ ms. k < (get_or ms 0 d).connection) same says in
+    let most : (get_or ls 0 d).connection ≤ (get_or ls j d).connection = climbs ls rises 0 j d
+    (omega arith) h in
+    let one : get_or ls j e ≡ get_or ls j d = get_or_default ls j e d h in
+    let all : k < (get_or ls j e).connection = subst (λ (m : Link). k < m.connection) (sym one)
+    (omega (arith, less, most)) in
+    grind (arith, nat_tests))
+
 -- two tests that both hold
 pub and-both : (a b : Bool) → (a && b) ≡ true → (a ≡ true) × (b ≡ true)
 and-both true true h = (refl, refl)

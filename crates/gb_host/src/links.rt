@@ -133,8 +133,27 @@ impl Links {
         None
     }
 
-    /// Where the connection with a number stands, where the numbers rise, by halving.
+    /// Where the connection with a number stands, where the numbers rise. None is looked at but the
+    /// first where that has a greater number.
+    #[inline]
     fn place_sought(&self, connection: u64) -> Option<usize>
+        ensures first { Rises self.now.live.items → result
+            ≡ position_from (λ l. l.connection == connection) 0 self.now.live.items }
+        ensures within { IfSome result (λ i. i < length self.now.live.items) }
+    {
+        let live = self.live.as_slice();
+        if live.is_empty() {
+            return None;
+        }
+        if connection < live[0].connection {
+            return None;
+        }
+        self.place_halved(connection)
+    }
+
+    /// Where the connection with a number stands, where the numbers rise, by halving.
+    #[inline(never)]
+    fn place_halved(&self, connection: u64) -> Option<usize>
         ensures first { Rises self.now.live.items → result
             ≡ position_from (λ l. l.connection == connection) 0 self.now.live.items }
         ensures within { IfSome result (λ i. i < length self.now.live.items) }
