@@ -44,6 +44,7 @@ pub enum Device {
 
 impl Device {
     /// The device of a protocol in its first state, None exactly where the protocol has none.
+    #[inline(always)]
     pub fn of(alloc: Global, protocol: u8) -> Result<Option<Device>, OutOfMemory>
         ensures { IfOk result (λ device. option_map seen device ≡ device_of protocol) }
     {

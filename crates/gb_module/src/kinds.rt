@@ -117,7 +117,9 @@ pub fn ports(alloc: Global, kind: Kind) -> Result<Vec<Port>, OutOfMemory>
     Ok(ports)
 }
 
-/// A CPort goes to the end, if its protocol has a device.
+/// A CPort goes to the end, if its protocol has a device. In line, since its protocol is known
+/// where it is called, and its device is then laid at its place at once.
+#[inline(always)]
 fn add(ports: &mut Vec<Port>, number: u16, protocol: u8) -> Result<(), OutOfMemory>
     ensures { OnOk result (ports.new.items
         ≡ ports.old.items ++ port_onto number protocol (device_of protocol) []) }
