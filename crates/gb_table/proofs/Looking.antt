@@ -3,7 +3,7 @@ use Rattle.std.proofs.Common.{◌≡◌, ◌≢◌, ◌<◌, ◌≤◌, ◌+◌,
 use Rattle.std.proofs.Common.{Some, None, List, [], ◌∷◌, ◌++◌, length, slice_set, true, false, cond}
 use Rattle.std.proofs.Common.{eqb, is_some, option_map, drop, refl, sym, ap, subst, ◌∙◌, arith}
 use Rattle.std.proofs.lemmas.Bool.Decides.{nat_tests}
-use Rattle.std.proofs.lemmas.List.{append-nil, append_assoc, drop_all}
+use Rattle.std.proofs.lemmas.List.{append-nil, append_assoc, drop_all, length-append}
 use Rattle.std.specs.List.{AllByRecursion, IsDistinct}
 use Rattle.std.specs.Map.{keys_of}
 use Rattle.gb_table.specs.Table.{Puts, entries_from, item_at, item_in}
@@ -143,6 +143,21 @@ pub longer : {X : Type 0} (n : ℕ) (places : List (Option X))
 longer n [] = refl
 longer n (None ∷ places) = longer (n + 1) places
 longer n (Some x ∷ places) = ap (λ es. (n, x) ∷ es) (longer (n + 1) places)
+
+-- what is put behind all places
+set-last : {X : Type 0} (places : List (Option X)) (w : Option X)
+    → slice_set (places ++ None ∷ []) (length places) w ≡ places ++ w ∷ []
+set-last [] w = refl
+set-last (o ∷ places) w = ap (λ os. o ∷ os) (set-last places w)
+
+pub puts-last : {X : Type 0} (n m : ℕ) (places : List (Option X)) (es : List (ℕ × X))
+    (w : Option X) → entries_from n places ≡ es → n ≤ m → m - n ≡ length places
+    → Puts (item_at es) (item_at (entries_from n (places ++ w ∷ []))) m w
+puts-last n m places es w is within last =
+    subst (λ os. Puts (item_at es) (item_at (entries_from n os)) m w)
+    (ap (λ i. slice_set (places ++ None ∷ []) i w) last ∙ set-last places w)
+    (puts-at n m (places ++ None ∷ []) es w (longer n places ∙ is) within
+    (omega (arith, last, length-append places (None ∷ []))))
 
 -- ---- no number stands twice
 

@@ -74,12 +74,17 @@ impl<T: Copy> Table<T> {
     }
 
     /// A number has this item from now on. After want of memory all is as before.
+    #[inline(always)]
     pub fn put(&mut self, n: u64, item: T) -> Result<(), OutOfMemory>
         ensures put { OnOk result (Puts (item_at self.old) (item_at self.new) n (Some item)) }
         ensures unchanged { OnErr result (self.new ≡ self.old) }
     {
         lead(&mut self.first, &mut self.places, n)?;
         let place = (n - self.first) as usize;
+        if place == self.places.len() {
+            self.places.push_back(Some(item))?;
+            return Ok(());
+        }
         extend(&mut self.places, place)?;
         self.places[place] = Some(item);
         Ok(())
@@ -158,6 +163,7 @@ fn item_in<T: Copy>(places: &VecDeque<Option<T>>, place: usize) -> Option<T>
 }
 
 /// A number isn't before the first one from now on. It is the first where there is no place.
+#[inline(always)]
 fn lead<T: Copy>(
     first: &mut u64,
     places: &mut VecDeque<Option<T>>,
