@@ -18,7 +18,7 @@ use Rattle.gb_bus.specs.declared.connection.Connection as code
 use Rattle.gb_bus.specs.declared.queue.Item.{Item}
 use Rattle.gb_machine.specs.Waiting.{end_before}
 use Rattle.gb_switch.proofs.Places.{settled-before}
-use Rattle.gb_switch.specs.Queues.{has_items}
+use Rattle.gb_switch.specs.Queue.{has_items}
 use Rattle.gb_switch.specs.WaitingEnds.{IsLeast, is_in}
 
 -- ---- the order of ends

@@ -1,5 +1,5 @@
 -- How the index of live connections is kept where one changes.
-use Rattle.std.proofs.Common.{◌≡◌, ◌≢◌, ℕ, true, false, ◌⊎◌, inl, inr, ⊎_elim, Some, List, []}
+use Rattle.std.proofs.Common.{◌≡◌, ◌≢◌, ℕ, true, ◌⊎◌, inl, inr, ⊎_elim, Some, List}
 use Rattle.std.proofs.Common.{refl, sym, ap, ◌∙◌, subst, IsSome}
 use Rattle.std.proofs.lemmas.Bool.{cases_eq, true≢false}
 use Rattle.std.proofs.lemmas.Map.{keys-set_value}
@@ -18,10 +18,9 @@ use Rattle.gb_bus.specs.Parts.{with_wire}
 use Rattle.gb_bus.specs.Seen.{seen}
 use Rattle.gb_bus.specs.Sides.{HasEndsOf}
 use Rattle.gb_bus.specs.declared.connection.Connection as code
-use Rattle.gb_bus.specs.declared.queue.Item.{Item}
 use Rattle.gb_switch.proofs.Places.{is-end}
-use Rattle.gb_switch.specs.Queues.{has_items}
-use Rattle.gb_switch.specs.WaitingEnds.{Marks, is_in}
+use Rattle.gb_switch.specs.Queue.{has_items}
+use Rattle.gb_switch.specs.WaitingEnds.{is_in}
 
 -- ---- what is kept, by its parts
 
@@ -138,10 +137,12 @@ numbered-set live live' ends n x y found set ap_is peer_is h a k has =
 -- ---- what is marked
 
 -- the ends of other connections stay marked or not where those of one change
-pub marked-others : (live : Live) (ends : Ends) (q r : List End) (k n : ℕ) (z x : code.Connection)
+pub marked-others : (live : Live) (ends : Ends) (old new : List End) (k n : ℕ)
+    (z x : code.Connection)
     → AreIndexed live ends → get nat_eq live k ≡ Some z → get nat_eq live n ≡ Some x → k ≢ n
-    → ((a : End) → (IsEndOf a x → ⊥) → is_in r a ≡ is_in q a) → IsMarked q z → IsMarked r z
-marked-others live ends q r k n z x i there found ne stay m = record {
+    → ((a : End) → (IsEndOf a x → ⊥) → is_in new a ≡ is_in old a)
+    → IsMarked old z → IsMarked new z
+marked-others live ends old new k n z x i there found ne stay m = record {
   near = stay (end.Ap z.ap)
       (λ of_x. ends-apart live ends k n z x (end.Ap z.ap) (end.Ap z.ap) i there found ne (inl refl)
       of_x refl)
@@ -153,11 +154,11 @@ marked-others live ends q r k n z x i there found ne stay m = record {
 }
 
 -- what is kept where one connection changes, but not its ends
-pub kept-change : (live live' : Live) (ends : Ends) (q r : List End) (n : ℕ)
+pub kept-change : (live live' : Live) (ends : Ends) (old new : List End) (n : ℕ)
     (x y : code.Connection)
     → get nat_eq live n ≡ Some x → live'.entries ≡ set_value (nat_eq n) live.entries y
-    → Remarks q r x y → MapsAgree live ends q → MapsAgree live' ends r
-kept-change live live' ends q r n x y found set m k = record {
+    → Remarks old new x y → MapsAgree live ends old → MapsAgree live' ends new
+kept-change live live' ends old new n x y found set m k = record {
   unique = unique-set live live' n y set k.unique;
   indexed = indexed-set live live' ends n x y found set m.near m.far k.indexed;
   numbered = numbered-set live live' ends n x y found set m.near m.far k.numbered;
@@ -166,15 +167,15 @@ kept-change live live' ends q r n x y found set m k = record {
 }
   where
     one : (j : ℕ) (z : code.Connection)
-        → ((j ≡ n) × (z ≡ y)) ⊎ ((j ≢ n) × (get nat_eq live j ≡ Some z)) → IsMarked r z
-    one j z (inl e) = subst (IsMarked r) (sym e.1) m.own
+        → ((j ≡ n) × (z ≡ y)) ⊎ ((j ≢ n) × (get nat_eq live j ≡ Some z)) → IsMarked new z
+    one j z (inl e) = subst (IsMarked new) (sym e.1) m.own
     one j z (inr e) =
-        marked-others live ends q r j n z x k.indexed e.1 found e.0 m.others (k.marked j z e.1)
+        marked-others live ends old new j n z x k.indexed e.1 found e.0 m.others (k.marked j z e.1)
 
     own : (a : End) → IsEndOf a x → IsSome (number_at ends a)
     own a is = subst IsSome (sym (number-of-end ends n x a (k.indexed n x found) is)) refl
 
-    whose : (a : End) → is_in r a ≡ true → (a ≡ end.Ap x.ap) ⊎ (a ≢ end.Ap x.ap)
+    whose : (a : End) → is_in new a ≡ true → (a ≡ end.Ap x.ap) ⊎ (a ≢ end.Ap x.ap)
         → (a ≡ x.peer) ⊎ (a ≢ x.peer) → IsSome (number_at ends a)
     whose a is (inl e) far = own a (inl e)
     whose a is (inr near) (inl e) = own a (inr e)
@@ -182,14 +183,14 @@ kept-change live live' ends q r n x y found set m k = record {
         k.owned a (sym (m.others a (λ of_x. ⊎_elim near far of_x)) ∙ is)
 
 -- where the same waits at the same ends
-pub same-marks : (q : List End) (x y : code.Connection) → HasEndsOf (seen 0 x) (seen 0 y)
-    → IsMarked q x → Remarks q q x y
-same-marks q x y s m = record {
+pub same-marks : (old : List End) (x y : code.Connection) → HasEndsOf (seen 0 x) (seen 0 y)
+    → IsMarked old x → Remarks old old x y
+same-marks old x y s m = record {
   near = s.near;
   far = s.far;
   own = record {
-    near = ap (λ a. is_in q (end.Ap a)) s.near ∙ m.near ∙ ap has_items (sym s.near_waits);
-    far = ap (is_in q) s.far ∙ m.far ∙ ap has_items (sym s.far_waits);
+    near = ap (λ a. is_in old (end.Ap a)) s.near ∙ m.near ∙ ap has_items (sym s.near_waits);
+    far = ap (is_in old) s.far ∙ m.far ∙ ap has_items (sym s.far_waits);
     idle = λ loose.
         let i = m.idle (sym s.wire ∙ loose) in (s.near_waits ∙ i.0, s.far_waits ∙ i.1);
   };
@@ -197,9 +198,9 @@ same-marks q x y s m = record {
 }
 
 -- so it does, and then something else waits there
-pub marks-after : (q r : List End) (x y z : code.Connection) → HasEndsOf (seen 0 x) (seen 0 y)
-    → Remarks q r y z → Remarks q r x z
-marks-after q r x y z s m = record {
+pub marks-after : (old new : List End) (x y z : code.Connection) → HasEndsOf (seen 0 x) (seen 0 y)
+    → Remarks old new y z → Remarks old new x z
+marks-after old new x y z s m = record {
   near = m.near ∙ s.near;
   far = m.far ∙ s.far;
   own = m.own;
@@ -208,16 +209,17 @@ marks-after q r x y z s m = record {
       (λ own. never (⊎_elim (λ e. inl (e ∙ ap end.Ap s.near)) (λ e. inr (e ∙ s.far)) own));
 }
 
-pub kept-set : (live live' : Live) (ends : Ends) (q : List End) (n : ℕ) (x y : code.Connection)
+pub kept-set : (live live' : Live) (ends : Ends) (old : List End) (n : ℕ) (x y : code.Connection)
     → get nat_eq live n ≡ Some x → live'.entries ≡ set_value (nat_eq n) live.entries y
-    → HasEndsOf (seen 0 x) (seen 0 y) → MapsAgree live ends q → MapsAgree live' ends q
-kept-set live live' ends q n x y found set s k =
-    kept-change live live' ends q q n x y found set (same-marks q x y s (k.marked n x found)) k
+    → HasEndsOf (seen 0 x) (seen 0 y) → MapsAgree live ends old → MapsAgree live' ends old
+kept-set live live' ends old n x y found set s k =
+    kept-change live live' ends old old n x y found set
+    (same-marks old x y s (k.marked n x found)) k
 
 -- none changes
-pub kept-same : (live live' : Live) (ends : Ends) (q : List End) → live'.entries ≡ live.entries
-    → MapsAgree live ends q → MapsAgree live' ends q
-kept-same live live' ends q same k = record {
+pub kept-same : (live live' : Live) (ends : Ends) (old : List End) → live'.entries ≡ live.entries
+    → MapsAgree live ends old → MapsAgree live' ends old
+kept-same live live' ends old same k = record {
   unique = subst (λ es. IsDistinct nat_eq (keys_of es)) (sym same) k.unique;
   indexed = λ n x there. k.indexed n x (ap (lookup (nat_eq n)) (sym same) ∙ there);
   numbered = λ a n has.
@@ -231,66 +233,16 @@ kept-same live live' ends q same k = record {
   owned = k.owned;
 }
 
--- ---- what waits at an end of one connection changes
-
--- at the CPort of the application processor
-pub near-changes : (q r : List End) (x : code.Connection) (items : List Item) (at : End)
-    → is_far x.peer ≡ true → IsMarked q x → at ≡ end.Ap x.ap → Marks q r at (has_items items)
-    → (x.wired ≡ false → items ≡ []) → Remarks q r x (record x { to_ap = items })
-near-changes q r x items at far k is m idle = record {
-  near = refl;
-  far = refl;
-  own = record {
-    near = ap (is_in r) (sym is) ∙ m.here;
-    far = m.others x.peer (λ e. two-ends x.ap x.peer far (sym (e ∙ is))) ∙ k.far;
-    idle = λ loose. (idle loose, (k.idle loose).1);
-  };
-  others = λ a never. m.others a (λ e. never (inl (e ∙ is)));
-}
-
--- at the far end
-pub far-changes : (q r : List End) (x : code.Connection) (items : List Item) (at : End)
-    → is_far x.peer ≡ true → IsMarked q x → at ≡ x.peer → Marks q r at (has_items items)
-    → (x.wired ≡ false → items ≡ []) → Remarks q r x (record x { to_far = items })
-far-changes q r x items at far k is m idle = record {
-  near = refl;
-  far = refl;
-  own = record {
-    near = m.others (end.Ap x.ap) (λ e. two-ends x.ap x.peer far (e ∙ is)) ∙ k.near;
-    far = ap (is_in r) (sym is) ∙ m.here;
-    idle = λ loose. ((k.idle loose).0, idle loose);
-  };
-  others = λ a never. m.others a (λ e. never (inr (e ∙ is)));
-}
-
--- nothing waits any more
-pub both-lost : (q m r : List End) (x : code.Connection) (near far : End) → is_far x.peer ≡ true
-    → near ≡ end.Ap x.ap → far ≡ x.peer → Marks q m near false → Marks m r far false
-    → Remarks q r x (record x { to_ap = []; to_far = [] })
-both-lost q m r x near far beyond is-near is-far n f = record {
-  near = refl;
-  far = refl;
-  own = record {
-    near =
-        f.others (end.Ap x.ap) (λ e. two-ends x.ap x.peer beyond (e ∙ is-far))
-        ∙ ap (is_in m) (sym is-near) ∙ n.here;
-    far = ap (is_in r) (sym is-far) ∙ f.here;
-    idle = λ loose. (refl, refl);
-  };
-  others = λ a never.
-      f.others a (λ e. never (inr (e ∙ is-far))) ∙ n.others a (λ e. never (inl (e ∙ is-near)));
-}
-
 -- a connection that is wired
-pub wired-marks : (q : List End) (x y : code.Connection) → seen 0 y ≡ with_wire (seen 0 x)
-    → IsMarked q x → Remarks q q x y
-wired-marks q x y is m = record {
+pub wired-marks : (old : List End) (x y : code.Connection) → seen 0 y ≡ with_wire (seen 0 x)
+    → IsMarked old x → Remarks old old x y
+wired-marks old x y is m = record {
   near = ap (λ (c : Connection). c.ap) is;
   far = ap (λ (c : Connection). c.peer) is;
   own = record {
-    near = ap (λ (c : Connection). is_in q (end.Ap c.ap)) is ∙ m.near
+    near = ap (λ (c : Connection). is_in old (end.Ap c.ap)) is ∙ m.near
         ∙ sym (ap (λ (c : Connection). has_items c.to_ap) is);
-    far = ap (λ (c : Connection). is_in q c.peer) is ∙ m.far
+    far = ap (λ (c : Connection). is_in old c.peer) is ∙ m.far
         ∙ sym (ap (λ (c : Connection). has_items c.to_far) is);
     idle = λ loose. absurd (true≢false (sym (ap (λ (c : Connection). c.wired) is) ∙ loose));
   };

@@ -19,7 +19,7 @@ use Rattle.gb_bus.specs.Seen.{seen}
 use Rattle.gb_bus.specs.declared.connection.Connection as code
 use Rattle.gb_switch.proofs.Places.{by-false, cmp-other, cmp-own, is-end}
 use Rattle.gb_switch.specs.Places.{end_cmp}
-use Rattle.gb_switch.specs.Queues.{has_items}
+use Rattle.gb_switch.specs.Queue.{has_items}
 use Rattle.gb_switch.specs.WaitingEnds.{is_in}
 
 -- ---- a connection is removed
@@ -52,26 +52,27 @@ pub index-here : (m n : Ends) (p : End) (w : Option ℕ) → Updated m n p w
 index-here m n p w u = u p ∙ ap (λ b. cond b w (number_at m p)) (cmp-own p)
 
 -- the ends of a connection aren't marked
-pub record IsUnmarked (r : List End) (x : code.Connection) : Type 0 where
-  pub near : is_in r (end.Ap x.ap) ≡ false
-  pub far : is_in r x.peer ≡ false
+pub record IsUnmarked (marked : List End) (x : code.Connection) : Type 0 where
+  pub near : is_in marked (end.Ap x.ap) ≡ false
+  pub far : is_in marked x.peer ≡ false
 
 -- so it is where nothing waits there any more
-pub unmarked : (q r : List End) (x y : code.Connection) → seen 0 y ≡ idled (seen 0 x)
-    → Remarks q r x y → IsUnmarked r x
-unmarked q r x y is m = record {
+pub unmarked : (old new : List End) (x y : code.Connection) → seen 0 y ≡ idled (seen 0 x)
+    → Remarks old new x y → IsUnmarked new x
+unmarked old new x y is m = record {
   near =
-      ap (λ a. is_in r (end.Ap a)) (sym m.near) ∙ m.own.near
+      ap (λ a. is_in new (end.Ap a)) (sym m.near) ∙ m.own.near
       ∙ ap (λ (c : Connection). has_items c.to_ap) is;
   far =
-      ap (is_in r) (sym m.far) ∙ m.own.far ∙ ap (λ (c : Connection). has_items c.to_far) is;
+      ap (is_in new) (sym m.far) ∙ m.own.far ∙ ap (λ (c : Connection). has_items c.to_far) is;
 }
 
-pub kept-removed : (live live' : Live) (e f : Ends) (q r : List End) (n : ℕ)
+pub kept-removed : (live live' : Live) (e f : Ends) (old new : List End) (n : ℕ)
     (x y : code.Connection) → get nat_eq live n ≡ Some x → Changed live live' n None
     → IsUnique nat_eq live' → LosesNumber e f (end.Ap x.ap) x.peer
-    → seen 0 y ≡ idled (seen 0 x) → Remarks q r x y → MapsAgree live e q → MapsAgree live' f r
-kept-removed live live' e f q r n x y found gone s loses lost m k = record {
+    → seen 0 y ≡ idled (seen 0 x) → Remarks old new x y → MapsAgree live e old
+    → MapsAgree live' f new
+kept-removed live live' e f old new n x y found gone s loses lost m k = record {
   unique = s;
   indexed = λ j z there.
       let ne = other j z there in
@@ -86,7 +87,7 @@ kept-removed live live' e f q r n x y found gone s loses lost m k = record {
   marked = λ j z there.
       let ne = other j z there in
       let was = before j z ne there in
-      marked-others live e q r j n z x k.indexed was found ne m.others (k.marked j z was);
+      marked-others live e old new j n z x k.indexed was found ne m.others (k.marked j z was);
   owned = λ a is. whose a is (is-end a (end.Ap x.ap)) (is-end a x.peer);
 }
   where
@@ -106,15 +107,15 @@ kept-removed live live' e f q r n x y found gone s loses lost m k = record {
         (ends-apart live e j n z x a (end.Ap x.ap) k.indexed was found ne own (inl refl))
         (ends-apart live e j n z x a x.peer k.indexed was found ne own (inr refl))
 
-    gone-marks : IsUnmarked r x
-    gone-marks = unmarked q r x y lost m
+    gone-marks : IsUnmarked new x
+    gone-marks = unmarked old new x y lost m
 
-    whose : (a : End) → is_in r a ≡ true → (a ≡ end.Ap x.ap) ⊎ (a ≢ end.Ap x.ap)
+    whose : (a : End) → is_in new a ≡ true → (a ≡ end.Ap x.ap) ⊎ (a ≢ end.Ap x.ap)
         → (a ≡ x.peer) ⊎ (a ≢ x.peer) → IsSome (number_at f a)
     whose a is (inl near) far =
-        absurd (true≢false (sym is ∙ ap (is_in r) near ∙ gone-marks.near))
+        absurd (true≢false (sym is ∙ ap (is_in new) near ∙ gone-marks.near))
     whose a is (inr near) (inl far) =
-        absurd (true≢false (sym is ∙ ap (is_in r) far ∙ gone-marks.far))
+        absurd (true≢false (sym is ∙ ap (is_in new) far ∙ gone-marks.far))
     whose a is (inr near) (inr far) =
         subst IsSome (sym (loses.others a near far))
         (k.owned a (sym (m.others a (λ own. ⊎_elim near far own)) ∙ is))
@@ -143,9 +144,9 @@ kept-removed live live' e f q r n x y found gone s loses lost m k = record {
 -- ---- ends get a number, or lose it
 
 -- the numbers that ends have stay, and no other end has one
-pub kept-numbers : (live : Live) (e f : Ends) (q : List End) → KeepsNumbers e f → MapsAgree live e q
-    → MapsAgree live f q
-kept-numbers live e f q keeps k = record {
+pub kept-numbers : (live : Live) (e f : Ends) (old : List End) → KeepsNumbers e f
+    → MapsAgree live e old → MapsAgree live f old
+kept-numbers live e f old keeps k = record {
   unique = k.unique;
   indexed = λ j x there.
       let i = k.indexed j x there in
@@ -222,21 +223,21 @@ gets-loses m n o near far v got lost at = by (is-end at near) (is-end at far)
     by (inr ne) (inr differs) = lost.others at ne differs ∙ got.others at ne differs
 
 -- an end that has no number isn't marked
-pub not-marked : (live : Live) (e : Ends) (q : List End) (a : End) → MapsAgree live e q
-    → number_at e a ≡ None → is_in q a ≡ false
-not-marked live e q a k none =
-    by-false (is_in q a) (λ is. never (number_at e a) none (k.owned a is))
+pub not-marked : (live : Live) (e : Ends) (old : List End) (a : End) → MapsAgree live e old
+    → number_at e a ≡ None → is_in old a ≡ false
+not-marked live e old a k none =
+    by-false (is_in old a) (λ is. never (number_at e a) none (k.owned a is))
   where
     never : (o : Option ℕ) → o ≡ None → IsSome o → ⊥
     never None e is = absurd (cc is)
     never (Some j) e is = absurd (some-none j e)
 
 -- a connection is there whose ends have its number, and where nothing waits
-pub kept-added : (live live' : Live) (e f : Ends) (q : List End) (n : ℕ) (x : code.Connection)
+pub kept-added : (live live' : Live) (e f : Ends) (old : List End) (n : ℕ) (x : code.Connection)
     → get nat_eq live n ≡ None → Changed live live' n (Some x) → IsUnique nat_eq live'
     → GetsNumber e f (end.Ap x.ap) x.peer n → is_far x.peer ≡ true → IsIdle x
-    → MapsAgree live e q → MapsAgree live' f q
-kept-added live live' e f q n x free more s got beyond idle k = record {
+    → MapsAgree live e old → MapsAgree live' f old
+kept-added live live' e f old n x free more s got beyond idle k = record {
   unique = s;
   indexed = λ j z there. by j z there (cases_eq j n);
   numbered = λ a j has. has-now a j has (is-end a (end.Ap x.ap)) (is-end a x.peer);
@@ -256,16 +257,16 @@ kept-added live live' e f q n x free more s got beyond idle k = record {
         same-some x z (sym (changed-here live live' n (Some x) more)
         ∙ ap (λ m. get nat_eq live' m) (sym same) ∙ there)
 
-    own : IsMarked q x
+    own : IsMarked old x
     own = record {
-      near = not-marked live e q (end.Ap x.ap) k got.free_near ∙ ap has_items (sym idle.0);
-      far = not-marked live e q x.peer k got.free_far ∙ ap has_items (sym idle.1);
+      near = not-marked live e old (end.Ap x.ap) k got.free_near ∙ ap has_items (sym idle.0);
+      far = not-marked live e old x.peer k got.free_far ∙ ap has_items (sym idle.1);
       idle = λ loose. idle;
     }
 
     mark : (j : ℕ) (z : code.Connection) → get nat_eq live' j ≡ Some z → (j ≡ n) ⊎ (j ≢ n)
-        → IsMarked q z
-    mark j z there (inl same) = subst (IsMarked q) (is-new j z there same) own
+        → IsMarked old z
+    mark j z there (inl same) = subst (IsMarked old) (is-new j z there same) own
     mark j z there (inr ne) =
         k.marked j z (sym (changed-others live live' n j (Some x) more ne) ∙ there)
 

@@ -12,7 +12,7 @@ use Rattle.gb_base.specs.declared.end.End.TheVariants as end
 use Rattle.gb_bus.specs.Ends.{is_far}
 use Rattle.gb_bus.specs.declared.connection.Connection as code
 use Rattle.gb_switch.specs.Places.{end_cmp}
-use Rattle.gb_switch.specs.Queues.{has_items}
+use Rattle.gb_switch.specs.Queue.{has_items}
 use Rattle.gb_switch.specs.WaitingEnds.{is_in}
 
 -- the live connections by number

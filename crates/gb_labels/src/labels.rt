@@ -128,6 +128,14 @@ impl Labels {
         self.words.clear();
     }
 
+    /// No identifier is in use, and none was drawn, as in new ones. It takes no memory.
+    pub fn renew(&mut self)
+        ensures { IsFirst self.new }
+    {
+        self.free_all();
+        self.last = 0;
+    }
+
     /// The least identifier from `start` on that isn't in use.
     fn first_free(&self, start: u16) -> Option<u16>
         ensures { FindsFree (is_in_use self.now) start result }

@@ -181,6 +181,14 @@ impl Ops {
         Some(n)
     }
 
+    /// No request was begun, as in new ones. It takes no memory.
+    pub fn renew(&mut self)
+        ensures { self.new ≡ no_operations }
+    {
+        self.tables.clear();
+        self.labels.renew();
+    }
+
     /// No request is open any more, and all identifiers are free. The last one drawn stays. It
     /// takes no memory.
     pub fn close_all(&mut self)

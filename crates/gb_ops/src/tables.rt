@@ -53,6 +53,7 @@ impl Tables {
 
     /// A request is open. What it had where it was open already is answered: its former identifier
     /// is in use still. After want of memory all is as before.
+    #[inline(always)]
     pub fn enter(
         &mut self,
         label: u16,

@@ -1,6 +1,6 @@
 pub mod Climbing
 pub mod Levels
 pub mod Places
-pub mod Queues
+pub mod Queue
 pub mod Stands
 pub mod WaitingEnds

@@ -3,7 +3,7 @@
 ghost use Rattle.std.specs.Prelude.{◌≡◌, [], ◌∷◌, ◌++◌, OnErr, OnOk, false, length};
 ghost use Rattle.std.specs.Prelude.{◌<◌, true};
 ghost use Rattle.std.specs.VecDeque.{deque_capacity, deque_len};
-ghost use Rattle.gb_switch.specs.Queues.{TakesAs, has_items};
+ghost use Rattle.gb_switch.specs.Queue.{TakesAs, has_items};
 ghost use Rattle.gb_switch.specs.WaitingEnds.{Marks, is_in};
 
 use crate::Place;
@@ -75,6 +75,13 @@ impl<T: Drop> Queue<T> {
     {
         self.items.clear();
         waiting.remove(at);
+    }
+
+    /// Nothing waits, as in a new one. Whether the end is marked stays.
+    pub fn renew(&mut self)
+        ensures { self.new ≡ [] }
+    {
+        self.items.clear();
     }
 
     /// How many items wait.

@@ -45,6 +45,7 @@ impl Waiting {
     }
 
     /// Adds a place. After want of memory all is as before.
+    #[inline(always)]
     pub fn add(&mut self, place: Place) -> Result<(), OutOfMemory>
         requires { is_in self.old place ≡ false }
         ensures added { OnOk result (Marks self.old self.new place true) }
