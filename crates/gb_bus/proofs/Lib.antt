@@ -42,6 +42,7 @@ pub mod SideParts
 pub mod SideSends
 pub mod SideStates
 pub mod Sides
+pub mod SlotAnswers
 pub mod SlotClosing
 pub mod SlotDeadlines
 pub mod SlotDues

@@ -90,6 +90,11 @@ abbrev pub is_open_slot : Option Slot → Bool
 is_open_slot None = false
 is_open_slot (Some slot) = is_none slot.outcome
 
+-- a name asks for a request that is kept
+abbrev pub is_named : Option Slot → Bool
+is_named None = false
+is_named (Some slot) = nat_lt 0 slot.names
+
 -- the counts where a request ended so, if it was open
 abbrev pub ended_at : ℕ → Outcome → SlotsKept → Tally
 ended_at n how x = if is_open_slot (slot_at x n) then one_ended how x.tally else x.tally

@@ -93,6 +93,25 @@ impl Connection {
         })
     }
 
+    /// A connection that is there no more becomes another, as a new one. It takes no memory: that
+    /// of its lists is used again.
+    pub fn renewed(self, ap: u16, peer: End, protocol: u8) -> Connection
+        ensures { seen 0 result ≡ new_connection 0 ap peer protocol }
+    {
+        let mut connection = self;
+        connection.ap = ap;
+        connection.peer = peer;
+        connection.protocol = protocol;
+        connection.wired = false;
+        connection.clean = true;
+        connection.shut = false;
+        connection.ap_ops.renew();
+        connection.far_ops.renew();
+        connection.to_ap.renew();
+        connection.to_far.renew();
+        connection
+    }
+
     /// It is wired, to a module at an interface.
     pub fn is_wired_to(&self, intf: u8) -> bool
         ensures { result ≡ is_wired_to intf (seen 0 self.now) }

@@ -25,10 +25,11 @@ ghost use Rattle.gb_bus.specs.Parts.{
   with_wire,
 };
 
-use crate::connection::{Connection, Draft};
+use crate::connection::Draft;
 use crate::ends::other_side;
 use crate::numbered::Numbered;
 use crate::queue::{Item, ask_item};
+use crate::spare::Spare;
 use crate::{SendFault, end_numbers};
 use gb_base::{End, OutOfMemory, Side};
 use gb_ops::Matched;
@@ -48,6 +49,8 @@ pub struct Connections {
     pub(crate) ends: HashMap<Place, u64>,
     /// The ends where something waits.
     pub(crate) waiting: Waiting,
+    /// Those that are there no more.
+    pub(crate) spare: Spare,
 }
 
 impl Model for Connections {
@@ -88,6 +91,7 @@ impl Connections {
             },
             ends: HashMap::new(alloc),
             waiting: Waiting::new(alloc),
+            spare: Spare::new(alloc),
         }
     }
 
@@ -107,7 +111,7 @@ impl Connections {
         ensures unchanged { OnErr result (self.new ≡ self.old) }
     {
         let near = End::Ap(ap);
-        let connection = Connection::new(alloc, ap, peer, protocol)?;
+        let connection = self.spare.take(alloc, ap, peer, protocol)?;
         end_numbers::set(&mut self.ends, near, peer, number)?;
         match self.live.map.insert(number, connection) {
             Ok(former) => {
@@ -172,7 +176,7 @@ impl Connections {
         };
         end_numbers::unset(&mut self.ends, End::Ap(connection.ap), connection.peer);
         connection.lose(&mut self.waiting);
-        drop(connection);
+        self.spare.keep(connection);
     }
 
     /// A request of a side of a connection is open from now on, unless it is unidirectional, and

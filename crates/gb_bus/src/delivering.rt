@@ -10,7 +10,7 @@ ghost use Rattle.gb_bus.specs.Taking.{dropped, open_kind, shown};
 
 use crate::queue::Item;
 use crate::{Arrival, Arrived, Asked, Bus, DeliverFault};
-use gb_base::{Bytes, End, Outcome, Side, TryCopy};
+use gb_base::{Bytes, End, Side};
 use gb_ops::Matched;
 use gb_wire::RESPONSE;
 
@@ -267,11 +267,7 @@ impl Bus {
             drop(payload);
             Bytes::new(self.alloc)
         };
-        let outcome = Outcome::Answered {
-            result: code,
-            payload: payload.copy()?,
-        };
-        self.slots.end(number, outcome);
+        self.slots.answer(self.alloc, number, code, &payload)?;
         Ok(Arrival::Ended {
             number,
             kind,

@@ -19,6 +19,7 @@ mod queue;
 mod raw;
 mod sending;
 mod slots;
+mod spare;
 mod tally;
 mod wiring;
 

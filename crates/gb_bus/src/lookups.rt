@@ -76,7 +76,7 @@ impl Connections {
     }
 
     /// No identifier is left on a side of a connection, or it isn't live.
-    #[inline]
+    #[inline(always)]
     pub fn is_spent(&self, k: u64, side: Side) -> bool
         ensures { result ≡ is_none (next_in k side self.now) }
     {

@@ -11,10 +11,15 @@ ghost use Rattle.std.specs.Prelude.{
   false,
   IfOk,
   IfSome,
+  IsOk,
   OnOk,
+  [],
+  if◌then◌else◌,
   is_some,
   option_copied,
 };
+ghost use Rattle.gb_base.specs.Bytes.{AreFew};
+ghost use Rattle.gb_base.specs.declared.outcome.Outcome.TheVariants as outcome;
 ghost use Rattle.gb_bus.specs.Counting.{no_requests};
 ghost use Rattle.gb_bus.specs.Keeping.{IsKept, IsNext, came_early, is_let_go, kept_in, lesser_of};
 ghost use Rattle.gb_bus.specs.Keeping.{time_of};
@@ -31,6 +36,7 @@ ghost use Rattle.gb_bus.specs.Slots.{
   is_asked_for,
   is_due,
   is_late_on,
+  is_named,
   is_open_on,
   is_open_slot,
   key_at,
@@ -43,7 +49,7 @@ ghost use Rattle.gb_bus.specs.Listing.{AreThose, FindsLeast};
 use crate::Tally;
 use crate::deadlines::Deadlines;
 use crate::listing::{Listed, in_order, listed_among};
-use gb_base::{Numbers, OutOfMemory, Outcome, Side};
+use gb_base::{Bytes, Numbers, OutOfMemory, Outcome, Side, TryCopy};
 use gb_table::Table;
 use slab::Slab;
 use std::alloc::Global;
@@ -198,12 +204,48 @@ impl Slots {
     }
 
     /// Request n ends so, where it is open.
-    #[inline]
+    #[inline(always)]
     pub fn end(&mut self, n: u64, how: Outcome)
         ensures { MovesAt n (ends_so how) (ended_at n how self.old) self.old self.new }
     {
         if let Some(key) = self.finish(n, how) {
             self.free(n, key);
+        }
+    }
+
+    /// Request n is answered, where it is open. Memory is taken for more than 16 bytes of a payload
+    /// that a name asks for. For want of it nothing changes.
+    #[inline]
+    pub fn answer(
+        &mut self,
+        alloc: Global,
+        n: u64,
+        code: u8,
+        payload: &Bytes,
+    ) -> Result<(), OutOfMemory>
+        ensures moves { OnOk result (MovesAt n (ends_so (outcome.Answered code payload.now))
+            (ended_at n (outcome.Answered code payload.now) self.old) self.old self.new) }
+        ensures few { AreFew payload.now → IsOk result }
+    {
+        let payload = self.kept_of(alloc, n, payload)?;
+        let how = Outcome::Answered {
+            result: code,
+            payload,
+        };
+        self.end(n, how);
+        Ok(())
+    }
+
+    /// What is kept of the payload of an answer to request n: nothing where no name asks for it.
+    #[inline(always)]
+    fn kept_of(&self, alloc: Global, n: u64, payload: &Bytes) -> Result<Bytes, OutOfMemory>
+        ensures same { IfOk result (λ kept. kept
+            ≡ (if is_named (slot_at self.now n) then payload.now else [])) }
+        ensures few { AreFew payload.now → IsOk result }
+    {
+        match self.get(n) {
+            Some(slot) if slot.names > 0 => payload.copy(),
+            _ => Ok(Bytes::new(alloc)),
         }
     }
 

@@ -22,8 +22,8 @@ set-requires-clause-far c =
     c.args.number c.args.ap c.args.peer c.self.invariant c.self.view_is c.requires.far
     c.requires.free).far
 
-pub invariant_of-self : goal.invariant_of-self
-invariant_of-self c =
+pub invariant_of-self-in_err-set : goal.invariant_of-self-in_err-set
+invariant_of-self-in_err-set c =
     kept-numbers c.self.inside.live.map c.self.inside.ends c.set.new.ends c.self.inside.waiting
     c.in_err-set.ensures.unchanged c.self.invariant
 
