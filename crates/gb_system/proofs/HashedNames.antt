@@ -142,6 +142,16 @@ bound-hashed name n ps qs d e update free =
     ∙ ap (cond (same_name name q) (Some n)) (found-sorted q ps d)
     ∙ sym (named-placed q (name, n) (sorted pair_before ps) free))
 
+-- the order of names is that of any other list in which the same is found
+pub same-sorted : (ps qs : List (Name × ℕ)) → IsDistinct same_name (keys_of ps)
+    → IsDistinct same_name (keys_of qs)
+    → ((q : Name) → lookup (same_name q) qs ≡ lookup (same_name q) ps)
+    → sorted pair_before qs ≡ sorted pair_before ps
+same-sorted ps qs d e same =
+    one-list (sorted pair_before qs) (sorted pair_before ps)
+    (rise-sorted qs (apart-distinct qs e)) (rise-sorted ps (apart-distinct ps d))
+    (λ q. sym (found-sorted q qs e) ∙ same q ∙ found-sorted q ps d)
+
 -- what is found where a name is taken out
 found-without : (name q : Name) (ps : List (Name × ℕ))
     → lookup (same_name q) (without (λ p. same_name p.0 name) ps)

@@ -1,8 +1,9 @@
 -- Midway through an action that is put together from many.
 use Rattle.std.proofs.Common.{◌≡◌, ◌<◌, ◌+◌, ℕ, List, [], ◌∷◌, ◌++◌, length, drop, get_or}
 use Rattle.std.proofs.Common.{drop-cons, add-one, append-nil, append_assoc, slice_index_or, refl}
-use Rattle.std.proofs.Common.{sym, ap, ap₂, ◌∙◌}
+use Rattle.std.proofs.Common.{reverse, sym, ap, ap₂, ◌∙◌}
 use Rattle.std.proofs.lemmas.Grind.{get_or_default_zero}
+use Rattle.std.proofs.lemmas.List.{reverse-append}
 use Rattle.gb_base.specs.declared.entry.Entry.{Entry}
 use Rattle.gb_machine.proofs.Opened.{machine_opened}
 use Rattle.gb_machine.proofs.Steps.{told_before}
@@ -103,3 +104,8 @@ pub drop-number : (ns : List ℕ) (i : ℕ) → i < length ns
 drop-number ns i within =
     let n = slice_index_or ns i 0 in
     drop-next ns i n within (sym (get_or_default_zero ns i n within))
+
+-- and what is left of a list that is turned round, from which the last member is taken
+pub reverse-last : {A : Type 0} (xs ys : List A) (x : A) → xs ≡ ys ++ x ∷ []
+    → reverse xs ≡ x ∷ reverse ys
+reverse-last xs ys x is = ap reverse is ∙ reverse-append ys (x ∷ [])

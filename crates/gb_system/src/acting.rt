@@ -32,10 +32,12 @@ impl Parties {
     {
         let mut acts = replace(&mut self.acts, Acts::new(self.alloc));
         self.host.on_into(event, &mut acts)?;
+        acts.reverse();
         let mut skips = false;
-        for act in acts.items() {
+        while let Some(act) = acts.pop() {
             if skips {
                 skips = false;
+                drop(act);
                 continue;
             }
             skips = self.act(act, told)?;
@@ -46,9 +48,9 @@ impl Parties {
 
     /// Does an act. Answers whether the next one is left out: the request of a connection that
     /// wasn't made.
-    fn act(&mut self, act: &Act, told: &mut Entries) -> Result<bool, OutOfMemory>
+    fn act(&mut self, act: Act, told: &mut Entries) -> Result<bool, OutOfMemory>
         ensures step { IfOk result (λ skips. (s : State) → PartsStand [] self.old s
-            → ActsAs self.old.host self.new act.now s skips told.old told.new) }
+            → ActsAs self.old.host self.new act s skips told.old told.new) }
     {
         match act {
             Act::Ask {
@@ -56,17 +58,17 @@ impl Parties {
                 kind,
                 payload,
                 purpose,
-            } => self.host_ask(*on, *kind, payload.items(), *purpose, told)?,
+            } => self.host_ask(on, kind, payload.items(), purpose, told)?,
             Act::Make {
                 ap,
                 intf,
                 cport,
                 protocol,
                 purpose,
-            } => return self.make(*ap, *intf, *cport, *protocol, *purpose, told),
-            Act::Shut { connection } => self.shut(*connection, told)?,
-            Act::Leave { connection } => self.bus.detach(*connection),
-            Act::Tell { entry } => told.push(entry.copy()?)?,
+            } => return self.make(ap, intf, cport, protocol, purpose, told),
+            Act::Shut { connection } => self.shut(connection, told)?,
+            Act::Leave { connection } => self.bus.detach(connection),
+            Act::Tell { entry } => told.push(entry)?,
         }
         Ok(false)
     }

@@ -1,6 +1,6 @@
 //! Messages, as the report tells them.
 
-ghost use Rattle.std.specs.Prelude.{◌≡◌, ◌≤◌, ◌<◌, IfOk, length};
+ghost use Rattle.std.specs.Prelude.{◌≡◌, ◌≤◌, ◌<◌, [], IfOk, length};
 ghost use Rattle.gb_formats.specs.Message.{message_size, request, response, spelling};
 ghost use Rattle.gb_formats.specs.Results.{most_payload};
 ghost use Rattle.gb_wire.specs.MessageOf.{message_of};
@@ -71,12 +71,28 @@ fn message_bytes(alloc: Global, m: &Message<'_>) -> Result<Bytes, OutOfMemory>
     requires request { m.now.kind < 128 → m.now.result ≡ 0 }
     ensures { IfOk result (λ b. b ≡ spelling (message_of m.now)) }
 {
+    if m.payload.is_empty() {
+        return Ok(bare_message(alloc, m));
+    }
     if m.payload.len() <= SHORT_PAYLOAD {
         return short_message(alloc, m);
     }
     let mut bytes = vec![in alloc; 0u8; HEADER + m.payload.len()]?;
     encode_into(m, &mut bytes).unwrap();
     Ok(Bytes::from_vec(bytes))
+}
+
+/// The canonical spelling of a message that has no payload, for which nothing is copied.
+#[inline]
+fn bare_message(alloc: Global, m: &Message<'_>) -> Bytes
+    requires bare { m.now.payload.now ≡ [] }
+    requires request { m.now.kind < 128 → m.now.result ≡ 0 }
+    ensures { result ≡ spelling (message_of m.now) }
+{
+    let bare = Message { payload: &[], ..*m };
+    let mut bytes = [0u8; HEADER + SHORT_PAYLOAD];
+    encode_into(&bare, &mut bytes).unwrap();
+    Bytes::from_front(alloc, bytes, HEADER)
 }
 
 /// The canonical spelling of a message that has at most 16 bytes.

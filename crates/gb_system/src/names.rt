@@ -75,7 +75,20 @@ impl Names {
     {
         sum(self.bound.len() as u64, 1)?;
         self.bound.insert(name, number)?;
+        self.make_room();
         Ok(())
+    }
+
+    /// Where the names fill their room there is four times as much, if memory is found: names are
+    /// hashed anew each time that their room grows.
+    #[inline]
+    fn make_room(&mut self)
+        ensures { self.new ≡ self.old }
+    {
+        let count = self.bound.len();
+        if count == self.bound.capacity() {
+            drop(self.bound.reserve(count.saturating_mul(3)));
+        }
     }
 
     /// Frees a name, and answers the request that it named, None where it is free.

@@ -29,6 +29,7 @@ impl Parties {
     }
 
     /// Whether an end of the application processor takes what is delivered there.
+    #[inline(always)]
     fn ap_takes(&self, at: End) -> bool
         ensures { (loose : List Loose) (s : State) (p : Place) → PartsStand loose self.now s
             → place_of at s.bus.connections ≡ Some p → side.Ap ≡ p.side

@@ -8,7 +8,8 @@ use Rattle.gb_system.proofs.names.Names.bind.Goals as goal
 
 pub returns-clause-ok : goal.returns-clause-ok
 returns-clause-ok c = λ free.
-    bound-hashed c.args.name c.args.number c.self.inside.bound.entries c.insert.new.self.entries
+    c.make_room.ensures
+    ∙ bound-hashed c.args.name c.args.number c.self.inside.bound.entries c.insert.new.self.entries
     c.self.invariant c.in_ok-insert.ensures.unique c.in_ok-insert.ensures.updates.0
     (ap (named c.args.name) c.self.view_is ∙ free)
     ∙ ap (in_order pair_before (c.args.name, c.args.number)) c.self.view_is

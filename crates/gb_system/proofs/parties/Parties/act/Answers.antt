@@ -1,6 +1,5 @@
 -- Each act is done by its function.
-use Rattle.std.proofs.Common.{false, ◌++◌, ◌∷◌, [], refl, sym, ap, ◌∙◌, subst}
-use Rattle.gb_base.specs.declared.entry.Entry.{Entry}
+use Rattle.std.proofs.Common.{[], false, refl, sym, subst}
 use Rattle.gb_host.specs.declared.acts.Act.{Act}
 use Rattle.gb_system.proofs.Acts.{leave-done}
 use Rattle.gb_system.proofs.Doings.{does-tell}
@@ -29,8 +28,7 @@ returns-in-Leave c = record {
 pub returns-in_ok-push-in-Tell : goal.returns-in_ok-push-in-Tell
 returns-in_ok-push-in-Tell c = record {
   step = λ s st.
-      let told = does-tell c.in-Tell.entry st (c.in_ok-push-in-Tell.ensures.ok
-      ∙ ap (λ (e : Entry). c.args.told.now ++ e ∷ []) c.in_ok-copy-in-Tell.ensures.same) in
+      let told = does-tell c.in-Tell.entry st c.in_ok-push-in-Tell.ensures.ok in
       subst (λ (a : Act). ActsAs c.args.self.now.host c.args.self.now a s false c.args.told.now
       c.push.new.self) (sym c.in-Tell.is) (refl, told, refl);
 }
