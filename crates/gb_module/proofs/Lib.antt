@@ -1,3 +1,4 @@
+pub mod Counting
 pub mod Loading
 pub mod Standing
 pub mod Stepping

@@ -106,8 +106,8 @@ pub record Found (number : ℕ) (ports items : List ModulePort) (i : ℕ)
   pub changed : (new : ModulePort) → new.number ≡ number → with_port new ports ≡ set items i new
   pub placed : (new : ModulePort) → new.number ≡ number
       → find (is_port number) (set items i new) ≡ Some new
-  pub stay : (places : BTreeMap ℕ ℕ) → AreFirst places 0 items → (new : ModulePort)
-      → new.number ≡ x.number → AreFirst places 0 (set items i new)
+  pub stay : (counted : ℕ) (places : BTreeMap ℕ ℕ) → AreFirst counted places items
+      → (new : ModulePort) → new.number ≡ x.number → AreFirst counted places (set items i new)
 
 -- a member does not depend on what stands for none
 same_member : (xs : List ModulePort) (j : ℕ) (d e : ModulePort) → j < length xs
@@ -130,7 +130,7 @@ found-in number ports i x first is =
           (standing number (set ports i new) i
           (same-from number ports 0 i new renamed ∙ first)).found new
           ∙ ap Some (get_or-set_same ports i new new s.within);
-      stay = λ places known new e number.
+      stay = λ counted places known new e number.
           known number
           ∙ sym (same-from number ports 0 i new
           (e ∙ ap (λ (p : ModulePort). p.number) (is ∙ same_member ports i x new s.within)));

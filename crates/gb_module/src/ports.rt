@@ -1,7 +1,7 @@
 //! The CPorts of a module.
 
-ghost use Rattle.std.specs.Prelude.{◌≡◌, ◌<◌, IfOk, IfSome, IsOk, IsOkAnd, List, ℕ, length, find};
-ghost use Rattle.std.specs.Prelude.{option_copied};
+ghost use Rattle.std.specs.Prelude.{◌≡◌, ◌<◌, ◌≤◌, IfOk, IfSome, IsOk, IsOkAnd, List, ℕ, length};
+ghost use Rattle.std.specs.Prelude.{find, option_copied};
 ghost use Rattle.std.specs.List.{position_from};
 ghost use Rattle.gb_base.specs.Bytes.{AreFew};
 ghost use Rattle.gb_bridge_payload.specs.Serving.{ServesAs};
@@ -15,6 +15,7 @@ ghost use Rattle.gb_formats.specs.ModuleSteps.{port_served, port_stirred};
 ghost use Rattle.gb_formats.specs.Results.{refusal_of};
 ghost use Rattle.gb_module.specs.Few.{FewSucceed, device_answer};
 ghost use Rattle.gb_module.specs.Loading.{EndsAs, IsIdle, Runs, RunsOn, follows};
+ghost use Rattle.gb_module.specs.Places.{AreCounted};
 ghost use Rattle.gb_module.specs.Steps.{with_ports};
 ghost use Rattle.gb_module.specs.Stirring.{IsStir, StirsAs};
 ghost use Rattle.gb_module.specs.Turning.{changes, wants};
@@ -29,10 +30,12 @@ use std::collections::BTreeMap;
 use std::marker::Model;
 
 /// The CPorts of a module that have a device, in the order of its manifest. A contract sees them as
-/// a list. The place of each number is kept, so that no look-up goes over all of them.
+/// a list. So many of the first have the numbers 1, 2, 3 and so on, which tell their places; the
+/// places of the others are kept, so that no look-up goes over all of them.
 #[derive(Drop)]
 pub struct Ports {
     ports: Vec<Port>,
+    counted: usize,
     places: BTreeMap<u16, usize>,
 }
 
@@ -46,7 +49,7 @@ impl Model for Ports {
 
     ghost view = { λ p. p.ports.items };
 
-    ghost invariant = { λ p. AreFirst p.places 0 p.ports.items };
+    ghost invariant = { λ p. AreFirst p.counted p.places p.ports.items };
 }
 
 impl Ports {
@@ -54,13 +57,18 @@ impl Ports {
     pub fn new(ports: Vec<Port>) -> Result<Ports, OutOfMemory>
         ensures { IfOk result (λ p. p ≡ ports.items) }
     {
+        let counted = counted_in(ports.as_slice());
         let mut places = BTreeMap::new(*ports.allocator());
         let mut left = ports.len();
-        while left > 0 {
+        while left > counted {
             left -= 1;
             places.insert(ports[left].number(), left)?;
         }
-        Ok(Ports { ports, places })
+        Ok(Ports {
+            ports,
+            counted,
+            places,
+        })
     }
 
     /// The CPort with a number, None exactly where there is none.
@@ -169,10 +177,28 @@ impl Ports {
     }
 
     /// Where the CPort with a number stands.
+    #[inline]
     fn place(&self, number: u16) -> Option<usize>
         ensures first { result ≡ position_from (is_port number) 0 self.now }
         ensures within { IfSome result (λ place. place < length self.now) }
     {
+        let count = usize::from(number);
+        if count > 0 && count <= self.counted {
+            return Some(count - 1);
+        }
         self.places.get(&number).copied()
     }
+}
+
+/// So many of the first of these CPorts have the numbers 1, 2, 3 and so on.
+fn counted_in(ports: &[Port]) -> usize
+    ensures numbers { AreCounted result ports.now }
+    ensures within { result ≤ length ports.now }
+{
+    for (i, port) in ports.iter().enumerate() {
+        if usize::from(port.number()) != i + 1 {
+            return i;
+        }
+    }
+    ports.len()
 }

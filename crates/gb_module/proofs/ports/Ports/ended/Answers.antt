@@ -19,7 +19,7 @@ invariant_of-self c =
     let port = c.index_mut-port.result.now in
     let found = found-at c.place.ensures.first c.in-Some.is c.self.view_is
     c.index_mut-port.ensures.value in
-    found.stay c.self.inside.places c.self.invariant c.ended.new.self
+    found.stay c.self.inside.counted c.self.inside.places c.self.invariant c.ended.new.self
     (follows-number port c.ended.new.self
     (follows_in port.state c.args.outcome.now (loader_of port.device)) c.ended.result
     c.ended.ensures.step)

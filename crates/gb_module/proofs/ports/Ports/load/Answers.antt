@@ -22,7 +22,7 @@ pub invariant_of-self : goal.invariant_of-self
 invariant_of-self c =
     let found = found-at c.place.ensures.first c.in-Some.is c.self.view_is
     c.index_mut-port.ensures.value in
-    found.stay c.self.inside.places c.self.invariant c.load.new.self
+    found.stay c.self.inside.counted c.self.inside.places c.self.invariant c.load.new.self
     (ap number_of c.load.ensures.port)
 
 pub returns-clause-module : goal.returns-clause-module

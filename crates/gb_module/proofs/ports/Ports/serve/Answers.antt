@@ -16,7 +16,7 @@ invariant_of-self c =
     let port = c.index_mut-port.result.now in
     let found = found-at c.place.ensures.first c.in-Some.is c.self.view_is
     c.index_mut-port.ensures.value in
-    found.stay c.self.inside.places c.self.invariant c.serve.new.self
+    found.stay c.self.inside.counted c.self.inside.places c.self.invariant c.serve.new.self
     (serves-number port c.serve.new.self c.args.kind c.args.payload.now c.serve.result
     c.serve.ensures.step)
 

@@ -16,7 +16,7 @@ invariant_of-self c =
     let port = c.index_mut-port.result.now in
     let found = found-at c.place.ensures.first c.in-Some.is c.self.view_is
     c.index_mut-port.ensures.value in
-    found.stay c.self.inside.places c.self.invariant c.stir.new.self
+    found.stay c.self.inside.counted c.self.inside.places c.self.invariant c.stir.new.self
     (stirs-number port c.stir.new.self (device_stir port.device (stir_of c.args.what))
     c.stir.result c.stir.ensures)
 

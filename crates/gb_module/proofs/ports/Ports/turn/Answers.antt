@@ -13,7 +13,7 @@ invariant_of-self c =
     let port = c.index_mut-port.result.now in
     let found = found-at c.place.ensures.first c.in-Some.is c.self.view_is
     c.index_mut-port.ensures.value in
-    found.stay c.self.inside.places c.self.invariant c.turn.new.self
+    found.stay c.self.inside.counted c.self.inside.places c.self.invariant c.turn.new.self
     (turns-number c.args.turn port c.turn.new.self c.turn.ensures.port)
 
 pub returns : goal.returns
