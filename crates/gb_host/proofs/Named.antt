@@ -1,7 +1,7 @@
 -- Connections by their far ends.
 use Rattle.std.proofs.Common.{◌≡◌, ◌==◌, ◌+◌, ◌<◌, ℕ, zero, suc, Bool, true, false, ◌&&◌, cond, not}
 use Rattle.std.proofs.Common.{nat_eq, Option, Some, None, List, [], ◌∷◌, ◌++◌, length, get_or, refl}
-use Rattle.std.proofs.Common.{◌*◌, ◌/◌, sym, ap, ◌∙◌, arith}
+use Rattle.std.proofs.Common.{◌*◌, sym, ap, ◌∙◌, arith}
 use Rattle.std.proofs.lemmas.Bool.Decides.{nat_tests}
 use Rattle.std.proofs.lemmas.List.Folds.{find-append}
 use Rattle.std.specs.List.{find, position_from}
@@ -15,8 +15,16 @@ use Rattle.gb_machine.specs.Lists.{at_first, without}
 pub equals : (a b : ℕ) → (a == b) ≡ true → a ≡ b
 equals a b h = grind (arith, nat_tests)
 
-alike : (a b : ℕ) → a ≡ b → (a == b) ≡ true
+pub alike : (a b : ℕ) → a ≡ b → (a == b) ≡ true
 alike a b h = grind (arith, nat_tests)
+
+-- numbers that differ
+pub unlike : (a b : ℕ) → (a ≡ b → ⊥) → (a == b) ≡ false
+unlike a b h = by (a == b) refl
+  where
+    by : (t : Bool) → (a == b) ≡ t → t ≡ false
+    by true e = absurd (h (equals a b e))
+    by false e = refl
 
 -- the number of a connection, where there is one
 abbrev pub number_of : Option Link → Option ℕ
@@ -46,10 +54,6 @@ same-end a b i c low least =
         sym e ∙ alike (end_number a b) (end_number i c) is
     by false true false e f g = refl
     by false false v e f g = refl
-
--- the interface of a far end
-pub intf-of-end : (i c : ℕ) → c < 65536 → end_number i c / 65536 ≡ i
-intf-of-end i c fits = omega (arith, fits)
 
 -- ---- the first at a far end
 

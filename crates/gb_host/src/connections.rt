@@ -151,9 +151,10 @@ impl Connections {
     pub fn remove_all(&mut self, intf: u8)
         ensures { self.new.live.items ≡ without (λ l. l.intf == intf) self.old.live.items }
     {
-        self.cports.leave_all(self.links.items(), intf);
+        let live = self.links.items();
+        self.cports.leave_all(live, intf);
+        self.ends.remove_all(live, intf);
         self.links.remove_all(intf);
-        self.ends.remove_all(intf);
         self.idle = self.links.idle_from(0);
     }
 

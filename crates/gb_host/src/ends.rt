@@ -60,13 +60,16 @@ impl Ends {
         self.numbers.remove(&far_end(intf, cport));
     }
 
-    /// No connection is at an interface any more.
-    pub fn remove_all(&mut self, intf: u8)
-        ensures { (ls : List Link) → AreNamed self.old ls
-            → AreNamed self.new (without (λ l. l.intf == intf) ls) }
+    /// No connection is at an interface any more. The far end of each that is there is removed.
+    pub fn remove_all(&mut self, live: &[Link], intf: u8)
+        ensures { AreNamed self.old live.now
+            → AreNamed self.new (without (λ l. l.intf == intf) live.now) }
     {
-        let intf = u32::from(intf);
-        self.numbers.retain(|end, _| *end / CPORTS != intf);
+        for link in live {
+            if link.intf == intf {
+                self.numbers.remove(&far_end(intf, link.cport));
+            }
+        }
     }
 }
 

@@ -2,20 +2,22 @@
 use Rattle.std.proofs.Common.{◌==◌, arith, sym, ap, ◌∙◌, subst}
 use Rattle.gb_host.proofs.Indexed.{indexed-left}
 use Rattle.gb_host.specs.Counts.{AreCounted}
+use Rattle.gb_host.specs.Named.{AreNamed}
 use Rattle.gb_machine.specs.Lists.{without}
 use Rattle.gb_host.proofs.connections.Connections.remove_all.Goals as goal
 
 pub invariant_of-self : goal.invariant_of-self
 invariant_of-self c =
     let ls = c.self.inside.links.live.items in
-    let ms = c.remove_all.new.self.live.items in
+    let ms = c.remove_all-2.new.self.live.items in
+    let live = sym c.items-live.ensures in
     indexed-left c.self.inside.cports c.leave_all.new.self c.self.inside.ends
-    c.remove_all-2.new.self c.self.inside.known c.self.inside.idle c.idle_from-self-inside.result
-    (λ l. l.intf == c.args.intf) ls ms c.remove_all.ensures c.self.invariant
+    c.remove_all.new.self c.self.inside.known c.self.inside.idle c.idle_from-self-inside.result
+    (λ l. l.intf == c.args.intf) ls ms c.remove_all-2.ensures c.self.invariant
     (subst (AreCounted c.leave_all.new.self)
-    (ap (without (λ l. l.intf == c.args.intf)) c.items.ensures
-    ∙ sym c.remove_all.ensures)
-    (c.leave_all.ensures (subst (AreCounted c.self.inside.cports) (sym c.items.ensures)
-    c.self.invariant.counted)))
-    (c.remove_all-2.ensures ls) c.idle_from-self-inside.ensures.within
+    (ap (without (λ l. l.intf == c.args.intf)) c.items-live.ensures ∙ sym c.remove_all-2.ensures)
+    (c.leave_all.ensures (subst (AreCounted c.self.inside.cports) live c.self.invariant.counted)))
+    (λ named. subst (λ ks. AreNamed c.remove_all.new.self (without (λ l. l.intf == c.args.intf) ks))
+    c.items-live.ensures (c.remove_all.ensures (subst (AreNamed c.self.inside.ends) live named)))
+    c.idle_from-self-inside.ensures.within
     (c.idle_from-self-inside.ensures.idle (λ i d h. absurd (omega (arith, h))))
