@@ -1,14 +1,16 @@
 -- Connections of which the first ones wait for nothing.
-use Rattle.std.proofs.Common.{◌≡◌, ◌==◌, ◌<◌, ◌≤◌, ◌+◌, ℕ, zero, suc, Bool, true, false, Option}
-use Rattle.std.proofs.Common.{None, Some, List, [], ◌∷◌, ◌++◌, length, drop, get_or, refl, sym, ap}
-use Rattle.std.proofs.Common.{◌∙◌, arith, subst}
+use Rattle.std.proofs.Common.{◌≡◌, ◌==◌, ◌<◌, ◌≤◌, ◌+◌, ◌-◌, ℕ, zero, suc, Bool, true, false}
+use Rattle.std.proofs.Common.{cond, not, Option, None, Some, List, [], ◌∷◌, ◌++◌, length, drop}
+use Rattle.std.proofs.Common.{get_or, refl, sym, ap, ◌∙◌, arith, subst}
 use Rattle.std.proofs.Math.ListN.{get_or-append}
 use Rattle.std.proofs.lemmas.Bool.Decides.{nat_tests}
 use Rattle.std.proofs.lemmas.List.{get_or_default}
+use Rattle.std.proofs.lemmas.List.Sums.{count_by-le-length, length-filter}
 use Rattle.std.specs.Option.{is_some}
 use Rattle.gb_base.specs.declared.interface.Link.{Link}
 use Rattle.gb_host.specs.Indexes.{AreIdle}
 use Rattle.gb_machine.specs.Bus.{or_else}
+use Rattle.gb_machine.specs.Lists.{without}
 use Rattle.gb_machine.specs.Waits.{link_waits, purpose_in}
 
 -- what is waited for is waited for behind them
@@ -57,6 +59,33 @@ idle-next ls l place within is none quiet i d h = by (i == place) refl
 pub idle-less : (ls : List Link) (place most : ℕ) → place ≤ most → AreIdle most ls
     → AreIdle place ls
 idle-less ls place most h quiet i d below = quiet i d (omega (arith, h, below))
+
+-- some leave: those that stay come forward by as many places at most as connections leave
+idle-stays : (p : Link → Bool) (ls : List Link) (idle : ℕ) → AreIdle idle ls
+    → AreIdle (idle - (length ls - length (without p ls))) (without p ls)
+idle-stays p [] idle quiet = λ i d h. quiet i d (omega (arith, h))
+idle-stays p (l ∷ ls) idle quiet =
+    by (p l) (idle-stays p ls (idle - 1) (λ i d h. quiet (suc i) d (omega (arith, h))))
+  where
+    most : length (without p ls) ≤ length ls
+    most = subst (λ n. n ≤ length ls) (sym (length-filter (λ m. not (p m)) ls))
+        (count_by-le-length (λ m. not (p m)) ls)
+
+    by : (b : Bool) → AreIdle (idle - 1 - (length ls - length (without p ls))) (without p ls)
+        → AreIdle (idle
+        - (suc (length ls) - length (cond (not b) (l ∷ without p ls) (without p ls))))
+        (cond (not b) (l ∷ without p ls) (without p ls))
+    by true later i d h = later i d (omega (arith, most, h))
+    by false later zero d h = quiet zero d (omega (arith, h))
+    by false later (suc i) d h = later i d (omega (arith, most, h))
+
+-- once so many are gone, so many fewer are known to wait for nothing
+pub idle-left : (p : Link → Bool) (ls ms : List Link) (idle gone : ℕ) → ms ≡ without p ls
+    → gone ≡ length ls - length ms → AreIdle idle ls → AreIdle (idle - gone) ms
+idle-left p ls ms idle gone e count quiet =
+    subst (λ n. AreIdle (idle - n) ms) (sym count)
+    (subst (λ ks. AreIdle (idle - (length ls - length ks)) ks) (sym e)
+    (idle-stays p ls idle quiet))
 
 -- nothing that is there is waited for
 pub none-awaited : {A : Type 0} (o : Option A) → is_some o ≡ false → o ≡ None

@@ -142,9 +142,9 @@ impl Connections {
         ensures { self.new.live.items ≡ without (is_link intf cport) self.old.live.items }
     {
         self.cports.leave_end(self.links.items(), intf, cport);
-        self.links.remove(intf, cport);
         self.ends.remove(intf, cport);
-        self.idle = self.links.idle_from(0);
+        let gone = self.links.remove(intf, cport);
+        self.idle = self.links.idle_from(self.idle.saturating_sub(gone));
     }
 
     /// The connections of an interface are there no more.
@@ -154,8 +154,8 @@ impl Connections {
         let live = self.links.items();
         self.cports.leave_all(live, intf);
         self.ends.remove_all(live, intf);
-        self.links.remove_all(intf);
-        self.idle = self.links.idle_from(0);
+        let gone = self.links.remove_all(intf);
+        self.idle = self.links.idle_from(self.idle.saturating_sub(gone));
     }
 
     /// A connection goes to the end.

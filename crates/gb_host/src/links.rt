@@ -1,7 +1,7 @@
 //! The connections to modules.
 
-ghost use Rattle.std.specs.Prelude.{◌≡◌, ◌==◌, ◌<◌, ◌≤◌, ◌∷◌, [], ◌++◌, true, false, IfSome};
-ghost use Rattle.std.specs.Prelude.{OnOk, Some};
+ghost use Rattle.std.specs.Prelude.{◌≡◌, ◌==◌, ◌<◌, ◌≤◌, ◌-◌, ◌∷◌, [], ◌++◌, true, false};
+ghost use Rattle.std.specs.Prelude.{IfSome, OnOk, Some};
 ghost use Rattle.std.specs.Prelude.{drop, find, get_or, length, set};
 ghost use Rattle.std.specs.List.{position_from};
 ghost use Rattle.gb_machine.specs.Host.{is_link};
@@ -235,19 +235,25 @@ impl Links {
         Ok(())
     }
 
-    /// The connection to a CPort of an interface is there no more.
-    pub fn remove(&mut self, intf: u8, cport: u16)
-        ensures { self.new.live.items ≡ without (is_link intf cport) self.old.live.items }
+    /// The connection to a CPort of an interface is there no more. Tells how many are gone.
+    pub fn remove(&mut self, intf: u8, cport: u16) -> usize
+        ensures stay { self.new.live.items ≡ without (is_link intf cport) self.old.live.items }
+        ensures gone { result ≡ length self.old.live.items - length self.new.live.items }
     {
+        let before = self.live.len();
         self.live
             .retain(|link| link.intf != intf || link.cport != cport);
+        before.saturating_sub(self.live.len())
     }
 
-    /// The connections of an interface are there no more.
-    pub fn remove_all(&mut self, intf: u8)
-        ensures { self.new.live.items ≡ without (λ l. l.intf == intf) self.old.live.items }
+    /// The connections of an interface are there no more. Tells how many are gone.
+    pub fn remove_all(&mut self, intf: u8) -> usize
+        ensures stay { self.new.live.items ≡ without (λ l. l.intf == intf) self.old.live.items }
+        ensures gone { result ≡ length self.old.live.items - length self.new.live.items }
     {
+        let before = self.live.len();
         self.live.retain(|link| link.intf != intf);
+        before.saturating_sub(self.live.len())
     }
 
     /// A connection goes to the end, or nothing changes.

@@ -4,6 +4,7 @@ use Rattle.std.proofs.lemmas.Fn.{filter_same}
 use Rattle.gb_host.proofs.links.Links.remove.Goals as goal
 use Rattle.gb_machine.specs.Host.{is_link}
 
-pub returns : goal.returns
-returns c = filter_same _ (λ y. not (is_link c.args.intf c.args.cport y)) _ (λ x b f' k. search
-    rules) _ _ c.retain.ensures.filtered
+pub returns-clause-stay : goal.returns-clause-stay
+returns-clause-stay c =
+    filter_same _ (λ y. not (is_link c.args.intf c.args.cport y)) _ (λ x b f' k. search rules) _ _
+    c.retain.ensures.filtered
