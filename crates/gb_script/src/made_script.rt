@@ -93,37 +93,21 @@ impl Maker {
         ensures ok { OnOk result (self.new ≡ further self.old) }
         ensures err { OnErr result (self.new ≡ self.old) }
     {
-        let event = self.coming(alloc)?;
-        self.pass();
-        Ok(event)
-    }
-
-    /// The event that comes next.
-    #[inline(always)]
-    fn coming(&self, alloc: Global) -> Result<Event, OutOfMemory>
-        requires { self.now.given < made_lines }
-        ensures { IfOk result (λ e. e ≡ made self.now.seed (self.now.given + 1)) }
-    {
         let k = self.given + 1;
-        if k <= 4 {
-            return Ok(Event::Insert {
-                intf: (k + 1) as u8,
-                kinds: Kinds::one(Kind::Bridge),
-            });
+        if k <= FIRST_LINES {
+            self.pass();
+            return Ok(first(k));
         }
-        if k == 5 {
-            return Ok(Event::Boot);
-        }
-        if k == 6 {
+        if k == MADE_LINES {
+            self.pass();
             return Ok(Event::Settle { most: ALL });
         }
-        if k <= 22 {
-            return Ok(connect(k - 7));
-        }
-        if k == FIRST_LINES || k == MADE_LINES {
-            return Ok(Event::Settle { most: ALL });
-        }
-        self.generator.drawn(alloc, k - FIRST_LINES)
+        let line = k - FIRST_LINES;
+        let number = next(self.generator.number);
+        let event = by_row(alloc, line, self.generator.named, draw(number))?;
+        self.generator.keep(line, number);
+        self.given = k;
+        Ok(event)
     }
 
     /// Passes over the next event.
@@ -132,12 +116,15 @@ impl Maker {
         ensures { self.new ≡ further self.old }
     {
         self.given += 1;
-        self.generator = self.generator.behind(self.given);
+        if self.given > FIRST_LINES {
+            let number = next(self.generator.number);
+            self.generator.keep(self.given - FIRST_LINES, number);
+        }
     }
 }
 
 /// A state of the generator.
-#[derive(Clone, Copy)]
+#[derive(Drop)]
 struct Generator {
     /// Its number.
     number: u64,
@@ -146,40 +133,42 @@ struct Generator {
 }
 
 impl Generator {
-    /// Line `k` of those that are drawn, 1 to 20,000, by the generator behind the line before it.
+    /// Keeps the number that was drawn for line `k` of those that are drawn, and the line where it
+    /// names a request.
     #[inline(always)]
-    fn drawn(self, alloc: Global, k: u32) -> Result<Event, OutOfMemory>
-        requires small { self.number < 2147483648 }
-        requires named { self.named ≤ 20000 }
+    fn keep(&mut self, k: u32, number: u64)
         requires first { 1 ≤ k }
-        requires last { k ≤ 20000 }
-        ensures { (seed : ℕ) → AreDrawn seed (k - 1) self.number self.named
-            → IfOk result (λ e. e ≡ made_drawn seed k) }
+        requires small { number < 2147483648 }
+        ensures { (seed : ℕ) → AreDrawn seed (k - 1) self.old.number self.old.named
+            → number ≡ (self.old.number * 1103515245 + 12345) % 2147483648
+            → AreDrawn seed k self.new.number self.new.named }
     {
-        by_row(alloc, k, self.named, draw(next(self.number)))
+        self.number = number;
+        if row(draw(number)) <= 3 {
+            self.named = k;
+        }
     }
+}
 
-    /// Behind line `k` of the script, from that before it.
-    fn behind(self, k: u32) -> Generator
-        requires { self.number < 2147483648 }
-        ensures { (seed : ℕ) → AreDrawn seed (k - 24) self.number self.named
-            → AreDrawn seed (k - 23) result.number result.named }
-    {
-        if k <= FIRST_LINES {
-            return self;
-        }
-        let number = next(self.number);
-        if row(draw(number)) > 3 {
-            return Generator {
-                number,
-                named: self.named,
-            };
-        }
-        Generator {
-            number,
-            named: k - FIRST_LINES,
-        }
+/// Line `k` of those before the first that is drawn.
+fn first(k: u32) -> Event
+    requires first { 1 ≤ k }
+    requires last { k ≤ 23 }
+    ensures { (seed : ℕ) → result ≡ made seed k }
+{
+    if k <= 4 {
+        return Event::Insert {
+            intf: (k + 1) as u8,
+            kinds: Kinds::one(Kind::Bridge),
+        };
     }
+    if k == 5 {
+        return Event::Boot;
+    }
+    if k == 6 || k == FIRST_LINES {
+        return Event::Settle { most: ALL };
+    }
+    connect(k - 7)
 }
 
 /// `connect I C`, of the four CPorts of each of the four modules.
