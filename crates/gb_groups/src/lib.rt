@@ -1,0 +1,6 @@
+//! Numbers in groups.
+#![tactic(auto)]
+
+mod groups;
+
+pub use groups::Groups;
