@@ -1,6 +1,6 @@
 //! Numbers in groups.
 
-ghost use Rattle.std.specs.Prelude.{◌≡◌, ◌==◌, [], IfOk, OnErr, OnOk};
+ghost use Rattle.std.specs.Prelude.{◌≡◌, ◌<◌, [], All, Contains, IfOk, IsOk, IsTrue, OnErr, OnOk};
 ghost use Rattle.std.specs.BTreeSet.{insert_key};
 ghost use Rattle.std.specs.List.Sorted.{IsStrictlySortedBy};
 ghost use Rattle.std.specs.Ordering.{nat_cmp};
@@ -53,27 +53,23 @@ impl Groups {
         self.lists[usize::from(group)].as_slice()
     }
 
-    /// A group has a number more, where it doesn't have it. After want of memory all is as before.
+    /// A group has a number more, where it doesn't have it. After want of memory all is as before,
+    /// and none is wanted for a number that is there.
     pub fn add(&mut self, group: u8, number: u64) -> Result<(), OutOfMemory>
         ensures added { OnOk result (Regroups self.old self.new group
             (insert_key nat_cmp (numbers_in self.old group) number)) }
         ensures unchanged { OnErr result (self.new ≡ self.old) }
+        ensures there { Contains (numbers_in self.old group) number → IsOk result }
     {
-        let list = &mut self.lists[usize::from(group)];
-        match list.binary_search(&number) {
-            Ok(_) => Ok(()),
-            Err(place) => {
-                list.insert(place, number)?;
-                Ok(())
-            }
-        }
+        insert_in_order(&mut self.lists[usize::from(group)], number)?;
+        Ok(())
     }
 
     /// A group doesn't have a number any more.
     pub fn remove(&mut self, group: u8, number: u64)
         ensures { Regroups self.old self.new group (left_out number (numbers_in self.old group)) }
     {
-        self.lists[usize::from(group)].retain(|n| *n != number);
+        take_out(&mut self.lists[usize::from(group)], number);
     }
 
     /// A group has no number any more. The memory stays.
@@ -82,4 +78,45 @@ impl Groups {
     {
         self.lists[usize::from(group)].clear();
     }
+}
+
+/// A list that rises has a number more, where it doesn't have it.
+fn insert_in_order(list: &mut Vec<u64>, number: u64) -> Result<(), OutOfMemory>
+    requires { IsStrictlySortedBy nat_cmp list.now.items }
+    ensures added { OnOk result (list.new.items ≡ insert_key nat_cmp list.old.items number) }
+    ensures unchanged { OnErr result (list.new.items ≡ list.old.items) }
+    ensures there { Contains list.old.items number → IsOk result }
+{
+    if is_greater(list.as_slice(), number) {
+        list.push(number)?;
+        return Ok(());
+    }
+    let Err(place) = list.binary_search(&number) else {
+        return Ok(());
+    };
+    list.insert(place, number)?;
+    Ok(())
+}
+
+/// Whether a number is greater than all of a list that rises.
+#[inline]
+fn is_greater(list: &[u64], number: u64) -> bool
+    requires { IsStrictlySortedBy nat_cmp list.now }
+    ensures { IsTrue result → All (λ m. m < number) list.now }
+{
+    match list.last() {
+        None => true,
+        Some(last) => *last < number,
+    }
+}
+
+/// A list that rises doesn't have a number any more.
+fn take_out(list: &mut Vec<u64>, number: u64)
+    requires { IsStrictlySortedBy nat_cmp list.now.items }
+    ensures { list.new.items ≡ left_out number list.old.items }
+{
+    let Ok(place) = list.binary_search(&number) else {
+        return;
+    };
+    list.remove(place);
 }
