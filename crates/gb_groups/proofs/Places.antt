@@ -13,44 +13,41 @@ use Rattle.gb_groups.specs.Groups.{AreRising, Regroups, numbers_in, numbers_of}
 abbrev items_of : Vec ℕ → List ℕ
 items_of v = v.items
 
--- These lists have the numbers of the groups, and a group has its list at a place.
-pub record Place (lists : List (Vec ℕ)) (groups : List (List ℕ)) (i g : ℕ) : Type 0 where
+-- These lists have the numbers of the groups, and there is one at a place.
+pub record Place (lists : List (Vec ℕ)) (groups : List (List ℕ)) (i : ℕ) : Type 0 where
   pub is : numbers_of lists ≡ groups
   pub rising : AreRising groups
-  pub same : i ≡ g
   pub inside : i < length lists
 
--- a group's list stands at its number
-pub place-of : (lists : List (Vec ℕ)) {groups : List (List ℕ)} {i g : ℕ}
-    → numbers_of lists ≡ groups → AreRising (numbers_of lists) → i ≡ g → g < 256
-    → Place lists groups i g
-place-of lists is rising same less = record {
+-- there is one at each value of a byte
+pub place-of : (lists : List (Vec ℕ)) {groups : List (List ℕ)} {i : ℕ}
+    → numbers_of lists ≡ groups → AreRising (numbers_of lists) → i < 256
+    → Place lists groups i
+place-of lists is rising less = record {
   is = is;
   rising = subst AreRising is rising;
-  same = same;
   inside =
       let long = sym (length-map lists items_of) ∙ rising.all in
-      omega (arith, same, less, long);
+      omega (arith, less, long);
 }
 
-module _ {lists : List (Vec ℕ)} {groups : List (List ℕ)} {i g : ℕ}
-    (p : Place lists groups i g) where
+module _ {lists : List (Vec ℕ)} {groups : List (List ℕ)} {i : ℕ} (p : Place lists groups i) where
   -- the list at the place
-  pub found-is : (v : Vec ℕ) → v ≡ get_or lists i v → v.items ≡ numbers_in groups g
+  pub found-is : (v : Vec ℕ) → v ≡ get_or lists i v → v.items ≡ numbers_in groups i
   found-is v found =
       ap items_of found ∙ sym (get_or-map items_of lists i v [] p.inside)
-      ∙ ap (λ l. get_or l i []) p.is ∙ ap (λ k. get_or groups k []) p.same
+      ∙ ap (λ l. get_or l i []) p.is
 
   -- it rises
   pub found-rises : (v : Vec ℕ) → v ≡ get_or lists i v → IsStrictlySortedBy nat_cmp v.items
   found-rises v found =
-      subst (IsStrictlySortedBy nat_cmp) (sym (found-is v found)) (p.rising.rise g)
+      subst (IsStrictlySortedBy nat_cmp) (sym (found-is v found)) (p.rising.rise i)
 
   -- another list there is that of the group from now on
-  pub regroups : (w : Vec ℕ) (ns : List ℕ) → w.items ≡ ns
+  pub regroups : (w : Vec ℕ) (ns : List ℕ) (g : ℕ) → i ≡ g → w.items ≡ ns
       → Regroups groups (numbers_of (set lists i w)) g ns
-  regroups w ns new =
-      subst (λ k. Regroups groups (numbers_of (set lists i w)) k ns) p.same (record {
+  regroups w ns g same new =
+      subst (λ k. Regroups groups (numbers_of (set lists i w)) k ns) same (record {
         here = ap (λ l. get_or l i []) (map-set items_of lists i w)
             ∙ get_or-set_same (map items_of lists) i w.items []
             (omega (arith, p.inside, length-map lists items_of))
@@ -66,13 +63,13 @@ module _ {lists : List (Vec ℕ)} {groups : List (List ℕ)} {i g : ℕ}
   still-rising w rises = record {
     all = length-map (set lists i w) items_of ∙ length-set lists i w
         ∙ sym (length-map lists items_of) ∙ ap length p.is ∙ p.rising.all;
-    rise = λ j. by j (cases_eq j g);
+    rise = λ j. by j (cases_eq j i);
   }
     where
-      r : Regroups groups (numbers_of (set lists i w)) g w.items
-      r = regroups w w.items refl
+      r : Regroups groups (numbers_of (set lists i w)) i w.items
+      r = regroups w w.items i refl refl
 
-      by : (j : ℕ) → (j ≡ g) ⊎ (j ≢ g)
+      by : (j : ℕ) → (j ≡ i) ⊎ (j ≢ i)
           → IsStrictlySortedBy nat_cmp (numbers_in (numbers_of (set lists i w)) j)
       by j (inl e) =
           subst (IsStrictlySortedBy nat_cmp)
