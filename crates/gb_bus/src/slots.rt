@@ -12,6 +12,7 @@ ghost use Rattle.std.specs.Prelude.{
   IfOk,
   IfSome,
   IsOk,
+  OnErr,
   OnOk,
   [],
   if◌then◌else◌,
@@ -226,6 +227,7 @@ impl Slots {
         ensures moves { OnOk result (MovesAt n (ends_so (outcome.Answered code payload.now))
             (ended_at n (outcome.Answered code payload.now) self.old) self.old self.new) }
         ensures few { AreFew payload.now → IsOk result }
+        ensures unchanged { OnErr result (self.new ≡ self.old) }
     {
         let payload = self.kept_of(alloc, n, payload)?;
         let how = Outcome::Answered {
