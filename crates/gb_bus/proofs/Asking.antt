@@ -8,17 +8,17 @@ use Rattle.std.specs.Prelude.{nat_eq}
 use Rattle.indexmap.specs.IndexMap.{get}
 use Rattle.gb_base.specs.declared.end.End.{End}
 use Rattle.gb_base.specs.declared.end.Side.{Side}
-use Rattle.gb_bus.proofs.Entries.{changes, set-here}
+use Rattle.gb_bus.proofs.Entries.{set-here}
 use Rattle.std.proofs.lemmas.Map.Steps.{set_value_same}
 use Rattle.gb_bus.proofs.Opening.{same-ok}
 use Rattle.gb_bus.proofs.Keeping.{kept-set}
-use Rattle.gb_bus.proofs.SeeingChanges.{finds, next-seen}
+use Rattle.gb_bus.proofs.SeeingChanges.{changes-one, finds, next-seen}
 use Rattle.gb_bus.proofs.SeeingQueues.{puts}
 use Rattle.gb_bus.proofs.SeeingSides.{put-back, side-changes}
 use Rattle.gb_bus.specs.Connection.{Connection}
 use Rattle.gb_bus.specs.Index.{Ends, MapsAgree, Live}
 use Rattle.gb_bus.specs.Parts.{next_of, numbered, put, queue_of, with_queue}
-use Rattle.gb_bus.specs.Seen.{all_seen, seen}
+use Rattle.gb_bus.specs.Seen.{seen, seen_in_order}
 use Rattle.gb_bus.specs.Sides.{Asks, AsksIn, HasEndsOf, LabelsIn, LabelsOn}
 use Rattle.gb_bus.specs.declared.answers.SendFault.{SendFault}
 use Rattle.gb_bus.specs.declared.answers.SendFault.TheVariants as fault
@@ -33,21 +33,22 @@ labels : (live live' : Live) (ends : Ends) (q : List End) (k : ℕ) (s : Side) (
     (oneway : Bool) (label : ℕ) (x y : code.Connection) → MapsAgree live ends q
     → get nat_eq live k ≡ Some x → live'.entries ≡ set_value (nat_eq k) live.entries y
     → LabelsOn (seen 0 x) (seen 0 y) s n deadline oneway (Ok label)
-    → LabelsIn (all_seen live.entries) (all_seen live'.entries) k s n deadline oneway label
+    → LabelsIn (seen_in_order live.entries) (seen_in_order live'.entries) k s n deadline oneway
+    label
 labels live live' ends q k s n deadline true label x y kept found now h =
     (same-ok label 0 (Ok label) refl h.0, put-back live live' ends q k x y kept found now h.1)
 labels live live' ends q k s n deadline false label x y kept found now h =
-    side-changes live live' ends q (all_seen live.entries) k s x y
+    side-changes live live' ends q (seen_in_order live.entries) k s x y
     (λ v u. Begins v u n deadline label) kept refl found now h
 
 -- ---- it isn't made
 
 pub asks-not : (live live' : Live) (ends : Ends) (q : List End) (xs : List Connection) (k : ℕ)
     (s : Side) (n kind : ℕ) (payload : List ℕ) (deadline : ℕ) (oneway : Bool) (e : SendFault)
-    (x y : code.Connection) → MapsAgree live ends q → all_seen live.entries ≡ xs
+    (x y : code.Connection) → MapsAgree live ends q → seen_in_order live.entries ≡ xs
     → get nat_eq live k ≡ Some x → live'.entries ≡ set_value (nat_eq k) live.entries y
     → LabelsOn (seen 0 x) (seen 0 y) s n deadline oneway (Err e)
-    → AsksIn xs (all_seen live'.entries) k s n kind payload deadline oneway (Err e)
+    → AsksIn xs (seen_in_order live'.entries) k s n kind payload deadline oneway (Err e)
 asks-not live live' ends q xs k s n kind payload deadline oneway e x y kept view found now did =
     by e oneway did
   where
@@ -55,7 +56,7 @@ asks-not live live' ends q xs k s n kind payload deadline oneway e x y kept view
     there = finds live xs k (Some x) view found
 
     by : (f : SendFault) → (b : Bool) → LabelsOn (seen 0 x) (seen 0 y) s n deadline b (Err f)
-        → AsksIn xs (all_seen live'.entries) k s n kind payload deadline b (Err f)
+        → AsksIn xs (seen_in_order live'.entries) k s n kind payload deadline b (Err f)
     by fault.NoLabel true h = absurd (cc h.0)
     by fault.NoLabel false h = (
       record {
@@ -78,8 +79,8 @@ pub record Made (live live' : Live) (ends : Ends) (q : List End) (k : ℕ) (s : 
   pub there : get nat_eq live' k ≡ Some y
   pub wire : y.wired ≡ x.wired
   pub stays : MapsAgree live' ends q
-  pub labels_are : LabelsIn (all_seen live.entries) (all_seen live'.entries) k s n deadline oneway
-      label
+  pub labels_are : LabelsIn (seen_in_order live.entries) (seen_in_order live'.entries) k s n
+      deadline oneway label
 
 pub made : (live live' : Live) (ends : Ends) (q : List End) (k : ℕ) (s : Side) (n deadline : ℕ)
     (oneway : Bool) (label : ℕ) (x y : code.Connection) → MapsAgree live ends q
@@ -101,18 +102,19 @@ lost c s i loose = sym (ap (λ b. cond b (with_queue s (queue_of s c ++ i ∷ []
 pub asks-lost : (live live' : Live) (ends : Ends) (q : List End) (xs : List Connection) (k : ℕ)
     (s : Side) (n kind : ℕ) (payload : List ℕ) (deadline : ℕ) (oneway : Bool) (label : ℕ)
     (x y : code.Connection) → Made live live' ends q k s n deadline oneway label x y
-    → all_seen live.entries ≡ xs → y.wired ≡ false
-    → Asks xs (all_seen live'.entries) k s n kind payload deadline oneway label true
+    → seen_in_order live.entries ≡ xs → y.wired ≡ false
+    → Asks xs (seen_in_order live'.entries) k s n kind payload deadline oneway label true
 asks-lost live live' ends q xs k s n kind payload deadline oneway label x y m view loose =
-    subst (λ ys. Asks ys (all_seen live'.entries) k s n kind payload deadline oneway label true)
+    subst
+    (λ ys. Asks ys (seen_in_order live'.entries) k s n kind payload deadline oneway label true)
     view (record {
       connection = seen k x;
-      found = finds live (all_seen live.entries) k (Some x) refl m.found;
+      found = finds live (seen_in_order live.entries) k (Some x) refl m.found;
       lost_is = sym (ap not (sym m.wire ∙ loose));
-      begun = all_seen live'.entries;
+      begun = seen_in_order live'.entries;
       labels = m.labels_are;
-      waits = changes live'.entries live'.entries k y y (put (other_side s) message)
-          m.stays.unique m.there (sym (set_value_same (nat_eq k) live'.entries y m.there))
+      waits = changes-one live' live' ends q k y y (put (other_side s) message) m.stays m.there
+          (sym (set_value_same (nat_eq k) live'.entries y m.there))
           (lost (seen k y) (other_side s) message loose);
     })
   where
@@ -124,19 +126,20 @@ pub asks-waits : (live live' made : Live) (ends : Ends) (q : List End) (xs : Lis
     (k : ℕ) (s : Side) (n kind : ℕ) (payload : List ℕ) (deadline : ℕ) (oneway : Bool)
     (label : ℕ) (x y z : code.Connection)
     → Made live made ends q k s n deadline oneway label x y
-    → all_seen live.entries ≡ xs → y.wired ≡ true
+    → seen_in_order live.entries ≡ xs → y.wired ≡ true
     → live'.entries ≡ set_value (nat_eq k) made.entries z
     → seen 0 z ≡ put (other_side s) (item.Ask n label kind payload) (seen 0 y)
-    → Asks xs (all_seen live'.entries) k s n kind payload deadline oneway label false
+    → Asks xs (seen_in_order live'.entries) k s n kind payload deadline oneway label false
 asks-waits live live' made ends q xs k s n kind payload deadline oneway label x y z m view w now
     did =
-    subst (λ ys. Asks ys (all_seen live'.entries) k s n kind payload deadline oneway label false)
+    subst
+    (λ ys. Asks ys (seen_in_order live'.entries) k s n kind payload deadline oneway label false)
     view (record {
       connection = seen k x;
-      found = finds live (all_seen live.entries) k (Some x) refl m.found;
+      found = finds live (seen_in_order live.entries) k (Some x) refl m.found;
       lost_is = sym (ap not (sym m.wire ∙ w));
-      begun = all_seen made.entries;
+      begun = seen_in_order made.entries;
       labels = m.labels_are;
-      waits = puts made live' ends q (all_seen made.entries) k y z (other_side s)
+      waits = puts made live' ends q (seen_in_order made.entries) k y z (other_side s)
           (item.Ask n label kind payload) m.stays refl m.there now did;
     })

@@ -12,12 +12,13 @@ use Rattle.gb_base.specs.declared.end.End.TheVariants as end
 use Rattle.gb_bus.proofs.Entries.{EachEntry, each-entry, other-number, same-number, same-some}
 use Rattle.gb_bus.proofs.Entries.{some-none}
 use Rattle.gb_bus.proofs.KeepingLive.{none-there}
+use Rattle.gb_bus.proofs.Ordered.{any-sorted}
 use Rattle.gb_bus.proofs.Placing.{end-differs, end-own}
 use Rattle.gb_bus.specs.Connection.{Connection}
 use Rattle.gb_bus.specs.Ends.{is_far}
 use Rattle.gb_bus.specs.Index.{Ends, IsEndOf, MapsAgree, Live, number_at}
 use Rattle.gb_bus.specs.Parts.{has_one_of, is_taken}
-use Rattle.gb_bus.specs.Seen.{all_seen, seen}
+use Rattle.gb_bus.specs.Seen.{all_seen, seen, seen_in_order}
 use Rattle.gb_bus.specs.Shown.{connection_in, without_ops}
 use Rattle.gb_bus.specs.Stands.{Around, Stands}
 use Rattle.gb_bus.specs.Wiring.{IsOther, MayAttach, is_taken_on}
@@ -105,12 +106,13 @@ any-none test (e ∷ es) h =
 
 -- It is told by the maps whether the number or an end is taken.
 pub taken-by : (live : Live) (ends : Ends) (q : List End) (xs : List Connection) (n a : ℕ)
-    (peer : End) → MapsAgree live ends q → all_seen live.entries ≡ xs → is_far peer ≡ true
+    (peer : End) → MapsAgree live ends q → seen_in_order live.entries ≡ xs → is_far peer ≡ true
     → is_some (get nat_eq live n)
     || (is_some (number_at ends (end.Ap a)) || is_some (number_at ends peer))
     ≡ is_taken n a peer xs
 taken-by live ends q xs n a peer kept view far =
     by (get nat_eq live n) refl (number_at ends (end.Ap a)) refl (number_at ends peer) refl
+    ∙ sym (any-sorted (has_one_of n a peer) live.entries)
     ∙ ap (is_taken n a peer) view
   where
     one : (j : ℕ) (x : code.Connection) → get nat_eq live j ≡ Some x
@@ -146,7 +148,7 @@ taken-by live ends q xs n a peer kept view far =
         (λ j x there. not-its j x there e f g)))
 
 module _ (live : Live) (ends : Ends) (q : List End) (xs : List Connection) (n a : ℕ) (peer : End)
-    (kept : MapsAgree live ends q) (view : all_seen live.entries ≡ xs)
+    (kept : MapsAgree live ends q) (view : seen_in_order live.entries ≡ xs)
     (far : is_far peer ≡ true) where
   -- the number is
   pub taken-first : is_some (get nat_eq live n) ≡ true → true ≡ is_taken n a peer xs
@@ -178,7 +180,7 @@ pub record AreFree (live : Live) (ends : Ends) (n a : ℕ) (peer : End) : Type 0
   pub far : number_at ends peer ≡ None
 
 pub are-free : (live : Live) (ends : Ends) (q : List End) (xs : List Connection) (n a : ℕ)
-    (peer : End) → MapsAgree live ends q → all_seen live.entries ≡ xs → is_far peer ≡ true
+    (peer : End) → MapsAgree live ends q → seen_in_order live.entries ≡ xs → is_far peer ≡ true
     → is_taken n a peer xs ≡ false → AreFree live ends n a peer
 are-free live ends q xs n a peer kept view far free =
     let none = none-of (is_some (get nat_eq live n)) (is_some (number_at ends (end.Ap a)))

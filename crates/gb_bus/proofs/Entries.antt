@@ -1,19 +1,19 @@
 -- The entries of a map by their numbers, and what is seen of them.
-use Rattle.std.proofs.Common.{◌≡◌, ◌≢◌, ℕ, Bool, true, false, cond, not, ◌⊎◌, inl, inr, Some}
+use Rattle.std.proofs.Common.{◌≡◌, ◌≢◌, ℕ, Bool, true, false, cond, ◌⊎◌, inl, inr, Some}
 use Rattle.std.proofs.Common.{None, option_map, List, [], ◌∷◌, ◌++◌, refl, sym, ap, ◌∙◌, subst}
 use Rattle.std.proofs.Common.{arith}
 use Rattle.std.proofs.lemmas.Bool.{cases_eq, eq-eqb, ne_eqb}
 use Rattle.std.proofs.lemmas.Bool.Decides.{nat_tests}
 use Rattle.std.proofs.lemmas.Map.Keys.{IsDistinct-head, IsDistinct-tail}
 use Rattle.std.specs.List.{AllByRecursion, IsDistinct, find}
-use Rattle.std.specs.Map.{keys_of, lookup, remove_entry, set_value}
+use Rattle.std.specs.Map.{keys_of, lookup, set_value}
 use Rattle.std.specs.Prelude.{nat_eq}
 use Rattle.gb_bus.specs.Connection.{Connection}
 use Rattle.gb_bus.specs.Parts.{numbered}
 use Rattle.gb_bus.specs.Seen.{all_seen, seen}
 use Rattle.gb_bus.specs.declared.connection.Connection as code
 pub use Rattle.gb_invariants.proofs.Awaiting.{same-some}
-use Rattle.gb_machine.specs.Lists.{at_first, without}
+use Rattle.gb_machine.specs.Lists.{at_first}
 
 -- ---- entries by their numbers
 
@@ -151,15 +151,6 @@ set-split (e ∷ front) back n x y h =
     (e ∷ set_value (nat_eq n) (front ++ (n, x) ∷ back) y)) (other-number n e.0 (λ q. h.0 (sym q)))
     ∙ ap (λ ys. e ∷ ys) (set-split front back n x y h.1)
 
-pub remove-split : {X : Type 0} (front back : List (ℕ × X)) (n : ℕ) (x : X) → NoKey n front
-    → remove_entry (nat_eq n) (front ++ (n, x) ∷ back) ≡ front ++ back
-remove-split [] back n x h =
-    ap (λ b. cond b back ((n, x) ∷ remove_entry (nat_eq n) back)) (same-number n n refl)
-remove-split (e ∷ front) back n x h =
-    ap (λ b. cond b (front ++ (n, x) ∷ back) (e ∷ remove_entry (nat_eq n) (front ++ (n, x) ∷ back)))
-    (other-number n e.0 (λ q. h.0 (sym q)))
-    ∙ ap (λ ys. e ∷ ys) (remove-split front back n x h.1)
-
 pub set-here : {X : Type 0} (n : ℕ) (es : List (ℕ × X)) (x y : X) → lookup (nat_eq n) es ≡ Some x
     → lookup (nat_eq n) (set_value (nat_eq n) es y) ≡ Some y
 set-here n [] x y l = absurd (some-none x (sym l))
@@ -240,27 +231,6 @@ first-nowhere (e ∷ es) n f h =
     ap (λ b. cond b (f (seen e.0 e.1) ∷ all_seen es)
     (seen e.0 e.1 ∷ at_first (numbered n) f (all_seen es))) (ne_eqb e.0 n h.0)
     ∙ ap (λ ys. seen e.0 e.1 ∷ ys) (first-nowhere es n f h.1)
-
-pub without-nowhere : (es : List (ℕ × code.Connection)) (n : ℕ)
-    → NoKey n es → without (numbered n) (all_seen es) ≡ all_seen es
-without-nowhere [] n h = refl
-without-nowhere (e ∷ es) n h =
-    ap (λ b. cond (not b) (seen e.0 e.1 ∷ without (numbered n) (all_seen es))
-    (without (numbered n) (all_seen es))) (ne_eqb e.0 n h.0)
-    ∙ ap (λ ys. seen e.0 e.1 ∷ ys) (without-nowhere es n h.1)
-
-pub without-split : (front back : List (ℕ × code.Connection))
-    (n : ℕ) (x : code.Connection) → NoKey n front → NoKey n back
-    → without (numbered n) (all_seen (front ++ (n, x) ∷ back)) ≡ all_seen (front ++ back)
-without-split [] back n x h b =
-    ap (λ t. cond (not t) (seen n x ∷ without (numbered n) (all_seen back))
-    (without (numbered n) (all_seen back))) (eq-eqb n n refl)
-    ∙ without-nowhere back n b
-without-split (e ∷ front) back n x h b =
-    ap (λ t. cond (not t)
-    (seen e.0 e.1 ∷ without (numbered n) (all_seen (front ++ (n, x) ∷ back)))
-    (without (numbered n) (all_seen (front ++ (n, x) ∷ back)))) (ne_eqb e.0 n h.0)
-    ∙ ap (λ ys. seen e.0 e.1 ∷ ys) (without-split front back n x h.1 b)
 
 -- the connection with a number
 pub find-seen : (es : List (ℕ × code.Connection)) (n : ℕ)

@@ -14,6 +14,7 @@ pub mod Entries
 pub mod Expiring
 pub mod Finding
 pub mod First
+pub mod InOrder
 pub mod Injects
 pub mod Keeping
 pub mod KeepingLive
@@ -23,7 +24,9 @@ pub mod LookedUp
 pub mod Loosening
 pub mod Mapped
 pub mod Named
+pub mod Numbers
 pub mod Opening
+pub mod Ordered
 pub mod Overviews
 pub mod Placing
 pub mod Queues

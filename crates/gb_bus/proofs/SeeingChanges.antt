@@ -9,10 +9,11 @@ use Rattle.gb_base.specs.declared.end.End.{End}
 use Rattle.gb_base.specs.declared.end.Side.{Side}
 use Rattle.gb_base.specs.declared.end.Side.TheVariants as side
 use Rattle.gb_bus.proofs.Entries.{changes, find-seen, first-nowhere, nowhere}
+use Rattle.gb_bus.proofs.InOrder.{lookup-sorted, set-sorted, unique-sorted}
 use Rattle.gb_bus.specs.Connection.{Connection}
 use Rattle.gb_bus.specs.Index.{Ends, MapsAgree, Live}
 use Rattle.gb_bus.specs.Parts.{closed, next_of, numbered, ops_of, queue_of, soiled}
-use Rattle.gb_bus.specs.Seen.{all_seen, seen}
+use Rattle.gb_bus.specs.Seen.{by_number, seen, seen_in_order}
 use Rattle.gb_bus.specs.Sides.{HasEndsOf}
 use Rattle.gb_bus.specs.declared.connection.Connection as code
 use Rattle.gb_machine.specs.Lists.{at_first}
@@ -21,10 +22,11 @@ use Rattle.gb_machine.specs.Lists.{at_first}
 
 -- the connection with a number
 pub finds : (live : Live) (xs : List Connection) (k : ℕ) (o : Option code.Connection)
-    → all_seen live.entries ≡ xs → get nat_eq live k ≡ o
+    → seen_in_order live.entries ≡ xs → get nat_eq live k ≡ o
     → find (numbered k) xs ≡ option_map (seen k) o
 finds live xs k o view is =
-    ap (find (numbered k)) (sym view) ∙ find-seen live.entries k ∙ ap (option_map (seen k)) is
+    ap (find (numbered k)) (sym view) ∙ find-seen (by_number live.entries) k
+    ∙ ap (option_map (seen k)) (lookup-sorted k live.entries ∙ is)
 
 pub queue-number : (j k : ℕ) (x : code.Connection) (s : Side)
     → queue_of s (seen j x) ≡ queue_of s (seen k x)
@@ -52,17 +54,20 @@ pub changes-one : (live live' : Live) (ends : Ends) (q : List End) (k : ℕ) (x 
     (f : Connection → Connection) → MapsAgree live ends q → get nat_eq live k ≡ Some x
     → live'.entries ≡ set_value (nat_eq k) live.entries y
     → seen k y ≡ f (seen k x)
-    → all_seen live'.entries ≡ at_first (numbered k) f (all_seen live.entries)
+    → seen_in_order live'.entries ≡ at_first (numbered k) f (seen_in_order live.entries)
 changes-one live live' ends q k x y f kept found now one =
-    changes live.entries live'.entries k x y f kept.unique found now one
+    changes (by_number live.entries) (by_number live'.entries) k x y f
+    (unique-sorted live.entries kept.unique) (lookup-sorted k live.entries ∙ found)
+    (ap by_number now ∙ set-sorted k live.entries x y kept.unique found) one
 
 -- and where none does
 pub nothing-changes : (live : Live) (xs : List Connection) (k : ℕ)
-    (f : Connection → Connection) → all_seen live.entries ≡ xs → get nat_eq live k ≡ None
+    (f : Connection → Connection) → seen_in_order live.entries ≡ xs → get nat_eq live k ≡ None
     → xs ≡ at_first (numbered k) f xs
 nothing-changes live xs k f view none =
     subst (λ ys. ys ≡ at_first (numbered k) f ys) view
-    (sym (first-nowhere live.entries k f (nowhere k live.entries none)))
+    (sym (first-nowhere (by_number live.entries) k f
+    (nowhere k (by_number live.entries) (lookup-sorted k live.entries ∙ none))))
 
 -- ---- something else changes than ends and what waits there
 

@@ -13,7 +13,7 @@ use Rattle.gb_bus.specs.Connection.{Connection}
 use Rattle.gb_bus.specs.Index.{Ends, Live, MapsAgree}
 use Rattle.gb_bus.specs.Parts.{TakesFront, TakesFrontAs, front_in, numbered, put, queue_of}
 use Rattle.gb_bus.specs.Parts.{with_queue, without_front}
-use Rattle.gb_bus.specs.Seen.{all_seen, seen}
+use Rattle.gb_bus.specs.Seen.{seen, seen_in_order}
 use Rattle.gb_bus.specs.declared.connection.Connection as code
 use Rattle.gb_bus.specs.declared.queue.Item.{Item}
 use Rattle.gb_machine.specs.Lists.{at_first, first}
@@ -33,9 +33,9 @@ filled-put k s item c = by s c.wired
 
 pub puts : (live live' : Live) (ends : Ends) (q : List End) (xs : List Connection) (k : ℕ)
     (x y : code.Connection) (s : Side) (item : Item) → MapsAgree live ends q
-    → all_seen live.entries ≡ xs → get nat_eq live k ≡ Some x
+    → seen_in_order live.entries ≡ xs → get nat_eq live k ≡ Some x
     → live'.entries ≡ set_value (nat_eq k) live.entries y → seen 0 y ≡ put s item (seen 0 x)
-    → all_seen live'.entries ≡ at_first (numbered k) (put s item) xs
+    → seen_in_order live'.entries ≡ at_first (numbered k) (put s item) xs
 puts live live' ends q xs k x y s item kept view found now did =
     changes-one live live' ends q k x y (put s item) kept found now
     (ap (filled k) did ∙ filled-put k s item (seen 0 x))
@@ -53,7 +53,7 @@ queue-filled k side.Far c = refl
 
 -- the front message of a connection
 front-is : (live : Live) (xs : List Connection) (k : ℕ) (x : code.Connection) (s : Side)
-    → all_seen live.entries ≡ xs → get nat_eq live k ≡ Some x
+    → seen_in_order live.entries ≡ xs → get nat_eq live k ≡ Some x
     → front_in k s xs ≡ first (queue_of s (seen 0 x))
 front-is live xs k x s view found =
     ap (option_and_then (λ c. first (queue_of s c))) (finds live xs k (Some x) view found)
@@ -61,10 +61,10 @@ front-is live xs k x s view found =
 
 pub takes : (live live' : Live) (ends : Ends) (q : List End) (xs : List Connection) (k : ℕ)
     (x y : code.Connection) (s : Side) (result : Option Item) → MapsAgree live ends q
-    → all_seen live.entries ≡ xs → get nat_eq live k ≡ Some x
+    → seen_in_order live.entries ≡ xs → get nat_eq live k ≡ Some x
     → live'.entries ≡ set_value (nat_eq k) live.entries y
     → TakesFront (seen 0 x) (seen 0 y) s result
-    → TakesFrontAs xs (all_seen live'.entries) k s result
+    → TakesFrontAs xs (seen_in_order live'.entries) k s result
 takes live live' ends q xs k x y s None kept view found now h = (
   front-is live xs k x s view found ∙ h.0,
   put-back live live' ends q k x y kept found now h.1 ∙ view,
@@ -77,6 +77,7 @@ takes live live' ends q xs k x y s (Some item) kept view found now h = (
 )
 
 pub takes-nowhere : (live : Live) {ys : List Connection} (xs : List Connection) (k : ℕ) (s : Side)
-    → all_seen live.entries ≡ xs → get nat_eq live k ≡ None → ys ≡ xs → TakesFrontAs xs ys k s None
+    → seen_in_order live.entries ≡ xs → get nat_eq live k ≡ None → ys ≡ xs
+    → TakesFrontAs xs ys k s None
 takes-nowhere live xs k s view none same =
     (ap (option_and_then (λ c. first (queue_of s c))) (finds live xs k None view none), same)

@@ -12,7 +12,7 @@ use Rattle.gb_bus.proofs.SeeingChanges.{changes-one, filled, finds, ops-seen}
 use Rattle.gb_bus.specs.Connection.{Connection}
 use Rattle.gb_bus.specs.Index.{Ends, MapsAgree, Live}
 use Rattle.gb_bus.specs.Parts.{is_soiled, numbered, ops_of, with_ops}
-use Rattle.gb_bus.specs.Seen.{all_seen, seen}
+use Rattle.gb_bus.specs.Seen.{seen, seen_in_order}
 use Rattle.gb_bus.specs.Sides.{ChangesSide}
 use Rattle.gb_bus.specs.Sides.{HasEndsOf, IsNotOf, MatchesAs, MatchesIn, MatchesOn, OnSide}
 use Rattle.gb_bus.specs.Sides.{RespondsIn, RespondsOn, asked_of}
@@ -49,10 +49,10 @@ filled-ops k side.Far ops x = refl
 
 pub side-changes : (live live' : Live) (ends : Ends) (q : List End) (xs : List Connection) (k : ℕ)
     (s : Side) (x y : code.Connection) (R : Operations → Operations → Type 0)
-    → MapsAgree live ends q → all_seen live.entries ≡ xs → get nat_eq live k ≡ Some x
+    → MapsAgree live ends q → seen_in_order live.entries ≡ xs → get nat_eq live k ≡ Some x
     → live'.entries ≡ set_value (nat_eq k) live.entries y
     → OnSide (seen 0 x) (seen 0 y) s R
-    → ChangesSide xs (all_seen live'.entries) k s R
+    → ChangesSide xs (seen_in_order live'.entries) k s R
 side-changes live live' ends q xs k s x y R kept view found now h = record {
   connection = seen k x;
   after = ops_of s (seen 0 y);
@@ -76,10 +76,10 @@ first-same test (x ∷ xs) = by (test x) (first-same test xs)
 pub put-back : (live live' : Live) (ends : Ends) (q : List End) (k : ℕ) (x y : code.Connection)
     → MapsAgree live ends q → get nat_eq live k ≡ Some x
     → live'.entries ≡ set_value (nat_eq k) live.entries y → seen 0 y ≡ seen 0 x
-    → all_seen live'.entries ≡ all_seen live.entries
+    → seen_in_order live'.entries ≡ seen_in_order live.entries
 put-back live live' ends q k x y kept found now same =
     changes-one live live' ends q k x y (λ c. c) kept found now (ap (filled k) same)
-    ∙ first-same (numbered k) (all_seen live.entries)
+    ∙ first-same (numbered k) (seen_in_order live.entries)
 
 same-side : (s : Side) (c : Connection) → with_ops s (ops_of s c) c ≡ c
 same-side side.Ap c = refl
@@ -92,10 +92,10 @@ IsNotOn number label s o =
 
 pub matches : (live live' : Live) (ends : Ends) (q : List End) (xs : List Connection) (k : ℕ)
     (s : Side) (number : Option ℕ) (label : ℕ) (r : Matched) (x y : code.Connection)
-    → MapsAgree live ends q → all_seen live.entries ≡ xs → get nat_eq live k ≡ Some x
+    → MapsAgree live ends q → seen_in_order live.entries ≡ xs → get nat_eq live k ≡ Some x
     → live'.entries ≡ set_value (nat_eq k) live.entries y
     → MatchesOn (seen 0 x) (seen 0 y) s number label r
-    → MatchesIn xs (all_seen live'.entries) k s number label r
+    → MatchesIn xs (seen_in_order live'.entries) k s number label r
 matches live live' ends q xs k s number label (matched.Open j) x y kept view found now did =
     side-changes live live' ends q xs k s x y
     (λ v u. MatchesAs v u number label (matched.Open j)) kept view found now did
@@ -111,7 +111,7 @@ matches live live' ends q xs k s number label matched.Unknown x y kept view foun
 )
 
 pub matches-none : (live : Live) {ys : List Connection} (xs : List Connection) (k : ℕ)
-    (s : Side) (number : Option ℕ) (label : ℕ) → all_seen live.entries ≡ xs
+    (s : Side) (number : Option ℕ) (label : ℕ) → seen_in_order live.entries ≡ xs
     → get nat_eq live k ≡ None → ys ≡ xs → MatchesIn xs ys k s number label matched.Unknown
 matches-none live xs k s number label view none same =
     (subst (IsNotOn number label s) (sym (finds live xs k None view none)) tt, same)
@@ -119,17 +119,17 @@ matches-none live xs k s number label view none same =
 -- a response goes by its number or by its identifier alone
 pub responds : (live live' : Live) (ends : Ends) (q : List End) (xs : List Connection) (k : ℕ)
     (s : Side) (number label : ℕ) (r : Bool × Matched) (x y : code.Connection)
-    → MapsAgree live ends q → all_seen live.entries ≡ xs → get nat_eq live k ≡ Some x
+    → MapsAgree live ends q → seen_in_order live.entries ≡ xs → get nat_eq live k ≡ Some x
     → live'.entries ≡ set_value (nat_eq k) live.entries y
     → RespondsOn (seen 0 x) (seen 0 y) s number label r
-    → RespondsIn xs (all_seen live'.entries) k s number label r
+    → RespondsIn xs (seen_in_order live'.entries) k s number label r
 responds live live' ends q xs k s number label r x y kept view found now did = (
   did.0 ∙ sym (ap is_soiled (finds live xs k (Some x) view found)),
   matches live live' ends q xs k s (asked_of r.0 number) label r.1 x y kept view found now did.1,
 )
 
 pub responds-none : (live : Live) {ys : List Connection} (xs : List Connection)
-    (k : ℕ) (s : Side) (number label : ℕ) → all_seen live.entries ≡ xs
+    (k : ℕ) (s : Side) (number label : ℕ) → seen_in_order live.entries ≡ xs
     → get nat_eq live k ≡ None → ys ≡ xs
     → RespondsIn xs ys k s number label (false, matched.Unknown)
 responds-none live xs k s number label view none same = (

@@ -21,18 +21,18 @@ use Rattle.gb_ops.proofs.Listing.{rising}
 use Rattle.gb_table.specs.Table.{item_at}
 
 -- what is found passes a test
-abbrev passes : (ℕ → Bool) → Option ℕ → Bool
+abbrev pub passes : {X : Type 0} → (X → Bool) → Option X → Bool
 passes test None = false
-passes test (Some key) = test key
+passes test (Some x) = test x
 
 -- past the entry of a number there is no other of it
-none-past : (n : ℕ) (e : ℕ × ℕ) (es : List (ℕ × ℕ)) → IsDistinct eqb (keys_of (e ∷ es))
+none-past : {X : Type 0} (n : ℕ) (e : ℕ × X) (es : List (ℕ × X)) → IsDistinct eqb (keys_of (e ∷ es))
     → n ≡ e.0 → item_at es n ≡ None
 none-past n e es d is =
     lookup-none (eqb n) es (none_past_head nat_eq_equiv n e es d (same-number n e.0 is))
 
--- those that are listed are those that were there and those whose keys pass
-stands-where : (test : ℕ → Bool) (n : ℕ) (ns : List ℕ) (es : List (ℕ × ℕ))
+-- those that are listed are those that were there and those that pass
+pub stands-where : {X : Type 0} (test : X → Bool) (n : ℕ) (ns : List ℕ) (es : List (ℕ × X))
     → IsDistinct eqb (keys_of es)
     → stands_in n (numbers_where test ns es) ≡ (stands_in n ns || passes test (item_at es n))
 stands-where test n ns [] d = last (stands_in n ns)

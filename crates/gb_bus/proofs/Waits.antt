@@ -16,11 +16,11 @@ use Rattle.gb_base.specs.declared.end.Side.{Side}
 use Rattle.gb_base.specs.declared.end.Side.TheVariants as side
 use Rattle.gb_bus.proofs.Earliest.{OneMore, WaitsIn, WaitsOn, before-through, has-in}
 use Rattle.gb_bus.proofs.Earliest.{in-marked, not-before-self, one-end}
-use Rattle.gb_bus.proofs.Entries.{EachEntry, NoKey, each-entry, others-behind, same-some}
+use Rattle.gb_bus.proofs.Entries.{EachEntry, NoKey, each-entry, find-seen, others-behind}
+use Rattle.gb_bus.proofs.Entries.{same-some}
 use Rattle.gb_bus.proofs.Keeping.{number-of-end, two-ends}
 use Rattle.gb_bus.proofs.Overviews.{with-some}
 use Rattle.gb_bus.proofs.Placing.{own-side, places-counted}
-use Rattle.gb_bus.proofs.SeeingChanges.{finds}
 use Rattle.gb_bus.specs.Connection.{Connection}
 use Rattle.gb_bus.specs.Index.{Ends, IsEndOf, IsIndexed, MapsAgree, Live}
 use Rattle.gb_bus.specs.Numbered.{HasSide}
@@ -332,7 +332,7 @@ count-side live numbers q k x s kept found wired =
     sym (ap (λ o. or_zero (option_and_then (count_of xs) o))
     (sym (places-counted live numbers q (end_at s (seen 0 x)) k s kept side))
     ∙ ap (λ o. or_zero (option_map (λ c. length (queue_of s c)) o))
-    (finds live xs k (Some x) refl found))
+    (find-seen live.entries k ∙ ap (option_map (seen k)) found))
   where
     xs : List Connection
     xs = all_seen live.entries

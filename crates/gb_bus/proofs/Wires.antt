@@ -1,6 +1,7 @@
 -- Connections that are made, wired, unwired, closed and removed stand for the machine's.
-use Rattle.std.proofs.Common.{◌≡◌, ◌≤◌, ℕ, ◌+◌, ◌==◌, not, true, false, eqb, List, [], ◌∷◌, ◌++◌}
-use Rattle.std.proofs.Common.{refl, sym, ap, ◌∙◌, subst, arith}
+use Rattle.std.proofs.Common.{◌≡◌, ◌≤◌, ℕ, ◌+◌, ◌==◌, Bool, cond, not, true, false, eqb, nat_le}
+use Rattle.std.proofs.Common.{List, [], ◌∷◌, ◌++◌, map, refl, sym, ap, ◌∙◌, subst, arith}
+use Rattle.std.proofs.lemmas.Bool.Decides.{nat_tests}
 use Rattle.gb_base.specs.declared.end.End.TheVariants as end
 use Rattle.gb_base.specs.declared.end.Side.{Side}
 use Rattle.gb_base.specs.declared.end.Side.TheVariants as side
@@ -14,6 +15,8 @@ use Rattle.gb_bus.specs.Counting.{Tells}
 use Rattle.gb_bus.specs.Listing.{AreThose}
 use Rattle.gb_bus.specs.Parts.{cleared, closed, new_connection, numbered, ops_of, with_ops}
 use Rattle.gb_bus.specs.Parts.{with_wire}
+use Rattle.gb_bus.specs.Seen.{connection_before}
+use Rattle.gb_bus.specs.Shown.{connection_in, without_ops}
 use Rattle.gb_bus.specs.Slots.{Closes, SlotsKept, all_disconnected, is_late_on, is_open_on, slot_at}
 use Rattle.gb_bus.specs.Stands.{Around, KeepSides, Keeps, Shows, Stands}
 use Rattle.gb_bus.specs.Wiring.{Attaches, EndsAs, IsOther, MayAttach, elsewhere}
@@ -24,13 +27,13 @@ use Rattle.gb_invariants.proofs.Changes.{attached-keeps, detached-keeps, shut-ke
 use Rattle.gb_invariants.proofs.Changes.{wired-keeps}
 use Rattle.gb_invariants.proofs.Awaiting.{not-both}
 use Rattle.gb_invariants.proofs.Counts.{times-filter}
-use Rattle.gb_invariants.proofs.Lists.{each-from, each-in, in-without}
+use Rattle.gb_invariants.proofs.Lists.{each-from, each-in, each-weaker, in-without}
 use Rattle.gb_invariants.proofs.Outcomes.{is-same}
 use Rattle.gb_invariants.specs.Facts.{IsMade, Loose, times_in}
 use Rattle.gb_machine.specs.Bus as machine
 use Rattle.gb_machine.specs.Labels.{last_label}
 use Rattle.gb_machine.specs.LawsBus.{AreApart, is_item_of}
-use Rattle.gb_machine.specs.Lists.{at_first, without}
+use Rattle.gb_machine.specs.Lists.{at_first, in_order, without}
 use Rattle.gb_machine.specs.Members.{Each, IsIn}
 use Rattle.gb_machine.specs.Wiring as wiring
 use Rattle.gb_machine.specs.Wiring.{attached, detached, next_connection, shut_down, side_ended}
@@ -103,6 +106,41 @@ new_ends loose b a i c protocol f may =
       aps = own.ap;
       peers = own.peer;
     })
+
+each-map : {A B : Type 0} (P : B → Type 0) (f : A → B) (xs : List A) → Each (λ x. P (f x)) xs
+    → Each P (map f xs)
+each-map P f [] h = tt
+each-map P f (x ∷ xs) h = (h.0, each-map P f xs h.1)
+
+each-mapped : {A B : Type 0} (P : B → Type 0) (f : A → B) (xs : List A) → Each P (map f xs)
+    → Each (λ x. P (f x)) xs
+each-mapped P f [] h = tt
+each-mapped P f (x ∷ xs) h = (h.0, each-mapped P f xs h.1)
+
+in_order-last : {A : Type 0} (before : A → A → Bool) (x : A) (ys : List A)
+    → Each (λ y. before x y ≡ false) ys → in_order before x ys ≡ ys ++ x ∷ []
+in_order-last before x [] h = refl
+in_order-last before x (y ∷ ys) h =
+    ap (λ b. cond b (x ∷ y ∷ ys) (y ∷ in_order before x ys)) h.0
+    ∙ ap (λ zs. y ∷ zs) (in_order-last before x ys h.1)
+
+-- The next number belongs behind all, since numbers of connections rise.
+pub next-last : (around : Around) (x : Bus) (b : machine.Bus) (c : Connection) → Stands around x b
+    → c.number ≡ x.made + 1 → in_order connection_before c x.connections ≡ x.connections ++ c ∷ []
+next-last around x b c s number =
+    in_order-last connection_before c x.connections
+    (each-mapped IsBelow without_ops x.connections
+    (subst (Each IsBelow) (sym s.shows.connections)
+    (each-map IsBelow (connection_in b.requests) b.connections
+    (each-weaker (IsMade b) (λ d. IsBelow (connection_in b.requests d)) b.connections
+    (λ d made. above c.number d.number x.made b.made number s.shows.made made.1)
+    s.facts.fits.numbers.range))))
+  where
+    IsBelow : Connection → Type 0
+    IsBelow d = connection_before c d ≡ false
+
+    above : (n m made last : ℕ) → n ≡ made + 1 → made ≡ last → m ≤ last → nat_le n m ≡ false
+    above n m made last e f low = grind (arith, nat_tests)
 
 pub attaches : (around : Around) (x y : Bus) (b : machine.Bus) (a i c protocol k : ℕ)
     → Stands around x b → MayAttach a i c b → k ≡ x.made + 1

@@ -103,12 +103,12 @@ pub record IsNext (times : ℕ → Option ℕ) (ended first : ℕ) (tally : Tall
   pub stays : ended ≢ first → next ≡ first
   pub ends : ended ≡ first → tally.left_open ≢ 0 → times next ≡ None → next ≡ tally.requests
 
--- a number whose key passes a test, among others in order
-abbrev pub put_where : (ℕ → Bool) → List ℕ → ℕ × ℕ → List ℕ
+-- a number that has something that passes a test, among others in order
+abbrev pub put_where : {X : Type 0} → (X → Bool) → List ℕ → ℕ × X → List ℕ
 put_where test ns p = if test p.1 then insert_key nat_cmp ns p.0 else ns
 
--- the numbers whose keys pass, among others in order
-abbrev pub numbers_where : (ℕ → Bool) → List ℕ → List (ℕ × ℕ) → List ℕ
+-- the numbers of all that passes, among others in order
+abbrev pub numbers_where : {X : Type 0} → (X → Bool) → List ℕ → List (ℕ × X) → List ℕ
 numbers_where test ns [] = ns
 numbers_where test ns (p ∷ ps) = numbers_where test (put_where test ns p) ps
 

@@ -4,7 +4,6 @@ ghost use Rattle.std.specs.Prelude.{
   ◌≡◌,
   [],
   ◌∷◌,
-  ◌++◌,
   OnOk,
   IfOk,
   OnErr,
@@ -12,7 +11,8 @@ ghost use Rattle.std.specs.Prelude.{
   true,
 };
 ghost use Rattle.gb_bus.specs.Ends.{is_far};
-ghost use Rattle.gb_machine.specs.Lists.{at_first, without};
+ghost use Rattle.gb_bus.specs.Seen.{connection_before};
+ghost use Rattle.gb_machine.specs.Lists.{at_first, in_order, without};
 ghost use Rattle.gb_bus.specs.Parts.{
   cleared,
   closed,
@@ -40,7 +40,7 @@ use std::alloc::Global;
 use std::collections::HashMap;
 use std::marker::Model;
 
-/// The live connections in the order in which they were made, with what waits on them.
+/// The live connections, with what waits on them. A contract sees them in order of number.
 #[derive(Drop)]
 pub struct Connections {
     /// By number.
@@ -60,9 +60,9 @@ impl Model for Connections {
     ghost Value = { List Connection };
 
     ghost use Rattle.gb_bus.specs.Index.{MapsAgree};
-    ghost use Rattle.gb_bus.specs.Seen.{all_seen};
+    ghost use Rattle.gb_bus.specs.Seen.{seen_in_order};
 
-    ghost view = { λ c. all_seen c.live.map.entries };
+    ghost view = { λ c. seen_in_order c.live.map.entries };
 
     ghost invariant = { λ c. MapsAgree c.live.map c.ends c.waiting };
 }
@@ -95,7 +95,7 @@ impl Connections {
         }
     }
 
-    /// Adds a connection at the end. After want of memory all is as before.
+    /// Adds a connection where its number belongs. After want of memory all is as before.
     pub fn add(
         &mut self,
         alloc: Global,
@@ -107,7 +107,8 @@ impl Connections {
         requires far { is_far peer ≡ true }
         requires free { is_taken number ap peer self.old ≡ false }
         ensures added { OnOk result
-            (self.new ≡ self.old ++ new_connection number ap peer protocol ∷ []) }
+            (self.new ≡ in_order connection_before (new_connection number ap peer protocol)
+            self.old) }
         ensures unchanged { OnErr result (self.new ≡ self.old) }
     {
         let near = End::Ap(ap);
@@ -171,7 +172,7 @@ impl Connections {
     pub fn remove(&mut self, k: u64)
         ensures { self.new ≡ without (numbered k) self.old }
     {
-        let Some(mut connection) = self.live.map.shift_remove(&k) else {
+        let Some(mut connection) = self.live.map.swap_remove(&k) else {
             return;
         };
         end_numbers::unset(&mut self.ends, End::Ap(connection.ap), connection.peer);

@@ -12,6 +12,7 @@ ghost use Rattle.std.specs.Prelude.{
   true,
 };
 ghost use Rattle.std.specs.List.{filter, list_any};
+ghost use Rattle.gb_machine.specs.Lists.{holds_of};
 ghost use Rattle.gb_bus.specs.Ends.{is_far};
 ghost use Rattle.gb_bus.specs.Overview.{count_at, known_as, waiting_in};
 ghost use Rattle.gb_bus.specs.Parts.{
@@ -125,13 +126,24 @@ impl Connections {
         ensures { IfOk result
             (λ ns. ns ≡ map (λ c. c.number) (filter (is_wired_to intf) self.now)) }
     {
+        let all = self.live.numbers(alloc)?;
         let mut numbers = Numbers::new(alloc);
-        for (number, connection) in &self.live.map {
-            if connection.is_wired_to(intf) {
+        for number in all.items() {
+            if self.wires_to(*number, intf) {
                 numbers.push(*number)?;
             }
         }
         Ok(numbers)
+    }
+
+    /// The connection with a number is wired to a module at an interface.
+    fn wires_to(&self, k: u64, intf: u8) -> bool
+        ensures { result ≡ holds_of (is_wired_to intf) (find (numbered k) self.now) }
+    {
+        match self.live.get(k) {
+            Some(connection) => connection.is_wired_to(intf),
+            None => false,
+        }
     }
 
     /// The wired connection that names an end, and the side at which the end stands.
@@ -159,11 +171,21 @@ impl Connections {
     pub fn known(&self, alloc: Global) -> Result<Sequence<Known>, OutOfMemory>
         ensures { IfOk result (λ ks. ks ≡ map known_as self.now) }
     {
+        let numbers = self.live.numbers(alloc)?;
         let mut known = Sequence::new(alloc);
-        for (number, connection) in &self.live.map {
-            known.push(connection.known(*number))?;
+        for number in numbers.items() {
+            if let Some(told) = self.known_at(*number) {
+                known.push(told)?;
+            }
         }
         Ok(known)
+    }
+
+    /// What is told of the connection with a number.
+    fn known_at(&self, k: u64) -> Option<Known>
+        ensures { result ≡ option_map known_as (find (numbered k) self.now) }
+    {
+        Some(self.live.get(k)?.known(k))
     }
 
     /// The ends at which something waits, in the order in which queues are settled.

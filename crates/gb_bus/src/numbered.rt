@@ -1,15 +1,20 @@
 //! The live connections by number.
 
-ghost use Rattle.std.specs.Prelude.{◌≡◌, IfSome, nat_eq, option_copied, true};
+ghost use Rattle.std.specs.Prelude.{◌≡◌, IfOk, IfSome, nat_eq, option_copied, true};
 ghost use Rattle.std.specs.Borrow.{sem};
 ghost use Rattle.std.specs.Option.{option_copied_mut};
-ghost use Rattle.indexmap.specs.IndexMap.{get};
+ghost use Rattle.std.specs.Map.{keys_of};
+ghost use Rattle.indexmap.specs.IndexMap.{IsUnique, get};
+ghost use Rattle.gb_bus.specs.Seen.{by_number};
 
 use crate::connection::Connection;
-use gb_base::{End, Side};
+use crate::listing::in_order;
+use gb_base::{End, Numbers, OutOfMemory, Side};
 use indexmap::IndexMap;
+use std::alloc::Global;
+use std::collections::BTreeSet;
 
-/// The live connections by number, in the order in which they were made.
+/// The live connections by number. The last one takes the place of one that is removed.
 #[derive(Drop)]
 pub struct Numbered {
     pub map: IndexMap<u64, Connection>,
@@ -35,6 +40,19 @@ impl Numbered {
     {
         let place = self.place(k)?;
         self.map.get_index_mut(place)
+    }
+
+    /// The numbers of all, in order.
+    pub fn numbers(&self, alloc: Global) -> Result<Numbers, OutOfMemory>
+        ensures { IfOk result (λ ns. IsUnique nat_eq self.now.map
+            → ns ≡ keys_of (by_number self.now.map.entries)) }
+    {
+        let mut found = BTreeSet::new(alloc);
+        for (number, _) in &self.map {
+            found.insert(*number)?;
+        }
+        let numbers = in_order(alloc, &found)?;
+        Ok(numbers)
     }
 
     /// The place of the connection with a number, None where it isn't live.

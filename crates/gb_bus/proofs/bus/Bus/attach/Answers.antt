@@ -2,8 +2,8 @@
 use Rattle.std.proofs.Common.{ap, sym, ◌∙◌}
 use Rattle.gb_base.specs.declared.end.End.TheVariants as end
 use Rattle.gb_bus.proofs.EndsTaken.{untaken}
-use Rattle.gb_bus.proofs.Wires.{attaches}
-use Rattle.gb_bus.specs.Parts.{is_taken}
+use Rattle.gb_bus.proofs.Wires.{attaches, next-last}
+use Rattle.gb_bus.specs.Parts.{is_taken, new_connection}
 use Rattle.gb_invariants.proofs.Awaiting.{not-both}
 use Rattle.gb_bus.proofs.bus.Bus.attach.Goals as goal
 
@@ -22,4 +22,6 @@ returns-clause-step c = λ around b s may.
     attaches around c.args.self.now _ b c.args.ap c.args.intf c.args.cport c.args.protocol
     c.in_ok-number.number s may c.in_ok-number.ensures.sum
     (ap (λ cs. record c.args.self.now { made = c.in_ok-number.number; connections = cs })
-    c.in_ok-add.ensures.added)
+    (c.in_ok-add.ensures.added
+    ∙ next-last around c.args.self.now b (new_connection c.in_ok-number.number c.args.ap
+    (end.Module c.args.intf c.args.cport) c.args.protocol) s c.in_ok-number.ensures.sum))

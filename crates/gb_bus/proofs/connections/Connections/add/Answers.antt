@@ -1,4 +1,4 @@
--- The connection stands behind all others, and both its ends have its number.
+-- The connection stands where its number belongs, and both its ends have its number.
 use Rattle.std.proofs.Common.{ap, subst, sym, ◌∙◌}
 use Rattle.gb_base.specs.declared.end.End.TheVariants as end
 use Rattle.gb_bus.proofs.EndsTaken.{are-free}
@@ -60,8 +60,8 @@ pub returns-in-Ok-clause-added : goal.returns-in-Ok-clause-added
 returns-in-Ok-clause-added c =
     adds c.self.inside.live.map c.insert.new.self c.args.self.now
     c.args.number c.args.ap c.args.peer c.args.protocol c.in_ok-connection.connection
-    c.self.view_is
+    c.self.invariant.unique c.in-Ok.ensures.unique c.self.view_is
     (are-free c.self.inside.live.map c.self.inside.ends c.self.inside.waiting c.args.self.now
     c.args.number c.args.ap c.args.peer c.self.invariant c.self.view_is c.requires.far
     c.requires.free).number
-    c.in-Ok.ensures.entries c.in_ok-connection.ensures
+    c.in-Ok.ensures.updates.0 c.in_ok-connection.ensures

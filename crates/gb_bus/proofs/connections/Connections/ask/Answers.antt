@@ -8,7 +8,7 @@ use Rattle.gb_bus.specs.Parts.{put}
 use Rattle.gb_bus.specs.declared.queue.Item.TheVariants as item
 use Rattle.gb_bus.proofs.Keeping.{kept-change, kept-same, kept-set, marks-after, same-marks}
 use Rattle.gb_bus.proofs.SeeingChanges.{finds}
-use Rattle.gb_bus.specs.Seen.{all_seen, seen}
+use Rattle.gb_bus.specs.Seen.{seen, seen_in_order}
 use Rattle.gb_bus.specs.Sides.{AsksIn}
 use Rattle.gb_bus.proofs.connections.Connections.ask.Goals as goal
 
@@ -21,7 +21,7 @@ pub returns-in_default : goal.returns-in_default
 returns-in_default c = (
   finds c.self.inside.live.map c.args.self.now c.args.k None c.self.view_is
       (sym c.in_default.ensures.value),
-  ap all_seen c.get_mut.follows.holds-at-none ∙ c.self.view_is,
+  ap seen_in_order c.get_mut.follows.holds-at-none ∙ c.self.view_is,
 )
 
 pub invariant_of-self-in_err-label : goal.invariant_of-self-in_err-label
@@ -36,7 +36,7 @@ returns-in_err-label c =
     let p = err_from_is_err_and c.from_residual.result c.from_residual.ensures.1 in
     subst
     (AsksIn c.args.self.now
-    (all_seen (c.get_mut.follows.lender c.label_for.new.self).map.entries) c.args.k
+    (seen_in_order (c.get_mut.follows.lender c.label_for.new.self).map.entries) c.args.k
     c.args.draft.now.side c.args.draft.now.number c.args.draft.now.kind c.args.draft.now.payload.now
     c.args.draft.now.deadline c.args.draft.now.oneway) (sym (p.1 ∙ ap Err p.2))
     (asks-not c.self.inside.live.map (c.get_mut.follows.lender c.label_for.new.self).map
@@ -82,7 +82,7 @@ returns-in_err-item c =
     c.from_residual-in_err-item.ensures.1 in
     subst
     (AsksIn c.args.self.now
-    (all_seen (c.get_mut.follows.lender c.label_for.new.self).map.entries) c.args.k
+    (seen_in_order (c.get_mut.follows.lender c.label_for.new.self).map.entries) c.args.k
     c.args.draft.now.side c.args.draft.now.number c.args.draft.now.kind c.args.draft.now.payload.now
     c.args.draft.now.deadline c.args.draft.now.oneway) (sym (p.1 ∙ ap Err p.2))
     (ap is_some
@@ -116,7 +116,7 @@ returns-in_err-push c =
     c.from_residual-in_err-push.ensures.1 in
     subst
     (AsksIn c.args.self.now
-    (all_seen (c.get_mut.follows.lender c.push.new.self).map.entries) c.args.k
+    (seen_in_order (c.get_mut.follows.lender c.push.new.self).map.entries) c.args.k
     c.args.draft.now.side c.args.draft.now.number c.args.draft.now.kind c.args.draft.now.payload.now
     c.args.draft.now.deadline c.args.draft.now.oneway) (sym (p.1 ∙ ap Err p.2))
     (ap is_some

@@ -3,7 +3,7 @@ use Rattle.std.proofs.Common.{None, ap, inl, inr, sym, ◌∙◌}
 use Rattle.gb_bus.proofs.Keeping.{kept-same, kept-set}
 use Rattle.gb_bus.proofs.SeeingChanges.{finds}
 use Rattle.gb_bus.proofs.SeeingSides.{side-changes, side-ends}
-use Rattle.gb_bus.specs.Seen.{all_seen, seen}
+use Rattle.gb_bus.specs.Seen.{seen, seen_in_order}
 use Rattle.gb_bus.specs.Sides.{GivesUpWhere}
 use Rattle.gb_bus.proofs.connections.Connections.give_up.Goals as goal
 
@@ -17,7 +17,7 @@ returns-in_default c =
     inr (
       finds c.self.inside.live.map c.args.self.now c.args.k None c.self.view_is
           (sym c.in_default.ensures.value),
-      ap all_seen c.get_mut.follows.holds-at-none ∙ c.self.view_is,
+      ap seen_in_order c.get_mut.follows.holds-at-none ∙ c.self.view_is,
     )
 
 pub invariant_of-self-2 : goal.invariant_of-self-2

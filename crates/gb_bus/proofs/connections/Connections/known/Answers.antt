@@ -1,18 +1,16 @@
--- All are told of.
-use Rattle.std.proofs.Common.{◌≡◌, ◌++◌, ap, map, ◌∙◌}
-use Rattle.gb_bus.specs.Seen.{all_seen}
-use Rattle.gb_bus.specs.Overview.{known_as}
+-- The numbers of all tell of all.
+use Rattle.std.proofs.Common.{◌++◌, ap, append-nil, sym, ◌∙◌}
+use Rattle.std.proofs.lemmas.List.{drop_all}
+use Rattle.gb_bus.proofs.Numbers.{told, told-all}
 use Rattle.gb_bus.proofs.connections.Connections.known.Goals as goal
 
-pub loop-number-init : goal.loop-number-init
-loop-number-init c =
-    let start : c.into_iter-number-iterator.result ≡ c.self.inside.live.map.entries =
-    c.into_iter-number-iterator.ensures.into_iter_gives.0 in (
-      tt,
-      tt,
-      ap (λ ks. ks ++ map known_as (all_seen c.into_iter-number-iterator.result))
-          c.new-known.ensures
-          ∙ ap (λ es. map known_as (all_seen es))
-          start
-          ∙ ap (map known_as) c.self.view_is,
-    )
+pub returns : goal.returns
+returns c =
+    sym (append-nil c.loop-number.known)
+    ∙ ap (λ ns. c.loop-number.known ++ told c.args.self.now ns)
+    (sym (drop_all c.loop-number.number-index c.items-number-items.result.now
+    c.loop-number-test.false))
+    ∙ c.loop-number.invariant
+    ∙ told-all c.items-number-items.result.now c.self.inside.live.map.entries c.args.self.now
+    c.self.invariant.unique c.self.view_is
+    (c.items-number-items.ensures ∙ c.in_ok-numbers.ensures c.self.invariant.unique)

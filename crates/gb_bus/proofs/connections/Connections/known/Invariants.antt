@@ -1,12 +1,8 @@
--- What was told so far, and what the connections not looked at yet tell, is all.
-use Rattle.std.proofs.Common.{◌≡◌, ◌++◌, map}
-use Rattle.gb_bus.specs.Seen.{all_seen}
-use Rattle.gb_bus.specs.Overview.{known_as}
+-- What was told so far, and what the numbers not looked at yet tell, is all.
+use Rattle.std.proofs.Common.{◌≡◌, ◌++◌, drop}
+use Rattle.gb_bus.proofs.Numbers.{told}
 use Rattle.gb_bus.proofs.connections.Connections.known.Given as goal
 
 abbrev pub invariant-loop-number : goal.invariant-loop-number
 invariant-loop-number l =
-    (goal.iterator-loop-number).can_next l.number-iterator
-    × (goal.iterator-loop-number).is_finite l.number-iterator
-    × (l.known ++ map known_as (all_seen l.number-iterator)
-    ≡ map known_as l.self)
+    l.known ++ told l.self (drop l.number-index l.number-items) ≡ told l.self l.number-items

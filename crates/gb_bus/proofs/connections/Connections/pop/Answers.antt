@@ -3,7 +3,7 @@ use Rattle.std.proofs.Common.{ap, subst, sym, ◌∙◌}
 use Rattle.gb_bus.proofs.Keeping.{kept-change, kept-same}
 use Rattle.gb_bus.proofs.SeeingQueues.{takes, takes-nowhere}
 use Rattle.gb_bus.specs.Parts.{TakesFrontAs}
-use Rattle.gb_bus.specs.Seen.{all_seen}
+use Rattle.gb_bus.specs.Seen.{seen_in_order}
 use Rattle.gb_bus.proofs.connections.Connections.pop.Goals as goal
 
 pub invariant_of-self : goal.invariant_of-self
@@ -14,11 +14,11 @@ invariant_of-self c =
 pub returns-in_err-connection : goal.returns-in_err-connection
 returns-in_err-connection c =
     subst
-    (TakesFrontAs c.args.self.now (all_seen c.get_mut.follows.lender-at-none.map.entries) c.args.k
-    c.args.side) (sym c.from_residual.ensures)
+    (TakesFrontAs c.args.self.now (seen_in_order c.get_mut.follows.lender-at-none.map.entries)
+    c.args.k c.args.side) (sym c.from_residual.ensures)
     (takes-nowhere c.self.inside.live.map c.args.self.now c.args.k c.args.side c.self.view_is
     (sym c.in_err-connection.ensures.value)
-    (ap all_seen c.get_mut.follows.holds-at-none ∙ c.self.view_is))
+    (ap seen_in_order c.get_mut.follows.holds-at-none ∙ c.self.view_is))
 
 pub pop-requires-clause-far : goal.pop-requires-clause-far
 pop-requires-clause-far c =

@@ -4,7 +4,7 @@ use Rattle.gb_bus.proofs.Keeping.{kept-change, kept-same}
 use Rattle.gb_bus.proofs.SeeingChanges.{nothing-changes}
 use Rattle.gb_bus.proofs.SeeingQueues.{puts}
 use Rattle.gb_bus.specs.Parts.{put}
-use Rattle.gb_bus.specs.Seen.{all_seen}
+use Rattle.gb_bus.specs.Seen.{seen_in_order}
 use Rattle.gb_bus.proofs.connections.Connections.push.Goals as goal
 
 pub invariant_of-self : goal.invariant_of-self
@@ -14,7 +14,7 @@ invariant_of-self c =
 
 pub returns-in_default : goal.returns-in_default
 returns-in_default c =
-    ap all_seen c.get_mut.follows.holds-at-none
+    ap seen_in_order c.get_mut.follows.holds-at-none
     ∙ c.self.view_is
     ∙ nothing-changes c.self.inside.live.map c.args.self.now c.args.k
     (put c.args.side c.args.item) c.self.view_is (sym c.in_default.ensures.value)

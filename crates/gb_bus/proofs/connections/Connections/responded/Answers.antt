@@ -2,7 +2,7 @@
 use Rattle.std.proofs.Common.{ap, sym, ◌∙◌}
 use Rattle.gb_bus.proofs.Keeping.{kept-same, kept-set}
 use Rattle.gb_bus.proofs.SeeingSides.{responds, responds-none, side-ends}
-use Rattle.gb_bus.specs.Seen.{all_seen, seen}
+use Rattle.gb_bus.specs.Seen.{seen, seen_in_order}
 use Rattle.gb_bus.specs.Sides.{MatchesAs, asked_of}
 use Rattle.gb_bus.proofs.connections.Connections.responded.Goals as goal
 
@@ -15,7 +15,7 @@ pub returns-in_default : goal.returns-in_default
 returns-in_default c =
     responds-none c.self.inside.live.map c.args.self.now c.args.k c.args.side
     c.args.number c.args.label c.self.view_is (sym c.in_default.ensures.value)
-    (ap all_seen c.get_mut.follows.holds-at-none ∙ c.self.view_is)
+    (ap seen_in_order c.get_mut.follows.holds-at-none ∙ c.self.view_is)
 
 pub invariant_of-self-2 : goal.invariant_of-self-2
 invariant_of-self-2 c =

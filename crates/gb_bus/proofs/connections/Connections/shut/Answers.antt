@@ -4,7 +4,7 @@ use Rattle.gb_bus.proofs.Keeping.{kept-same, kept-set}
 use Rattle.gb_bus.proofs.SeeingChanges.{changes-one, closed-ends, filled}
 use Rattle.gb_bus.proofs.SeeingChanges.{marked-ends, nothing-changes}
 use Rattle.gb_bus.specs.Parts.{closed, numbered}
-use Rattle.gb_bus.specs.Seen.{all_seen, seen}
+use Rattle.gb_bus.specs.Seen.{seen, seen_in_order}
 use Rattle.gb_machine.specs.Lists.{at_first}
 use Rattle.gb_bus.proofs.connections.Connections.shut.Goals as goal
 
@@ -15,7 +15,7 @@ invariant_of-self c =
 
 pub returns-in_default : goal.returns-in_default
 returns-in_default c =
-    ap all_seen c.get_mut.follows.holds-at-none
+    ap seen_in_order c.get_mut.follows.holds-at-none
     ∙ c.self.view_is
     ∙ nothing-changes c.self.inside.live.map c.args.self.now c.args.k closed
     c.self.view_is (sym c.in_default.ensures.value)

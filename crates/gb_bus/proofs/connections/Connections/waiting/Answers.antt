@@ -2,6 +2,7 @@
 use Rattle.std.proofs.Common.{◌++◌, ap, append-nil, map, subst, sym, ◌∙◌}
 use Rattle.std.proofs.lemmas.List.{drop_all}
 use Rattle.std.specs.List.Sorted.{IsStrictlySortedBy}
+use Rattle.gb_bus.proofs.Ordered.{agree-ordered, ordered}
 use Rattle.gb_bus.proofs.Waits.{waiting-is}
 use Rattle.gb_bus.specs.Overview.{waiting_at, waiting_in}
 use Rattle.gb_switch.specs.Places.{end_cmp}
@@ -15,6 +16,7 @@ returns c =
     ∙ c.loop-at.invariant
     ∙ ap (map (waiting_at c.args.self.now)) (c.items-at-items.ensures ∙ c.in_ok-ends.ensures.ends)
     ∙ ap (λ xs. map (waiting_at xs) c.self.inside.waiting) (sym c.self.view_is)
-    ∙ waiting-is c.self.inside.live.map c.self.inside.ends c.self.inside.waiting c.self.invariant
+    ∙ waiting-is (ordered c.self.inside.live.map) c.self.inside.ends c.self.inside.waiting
+    (agree-ordered c.self.invariant)
     (subst (IsStrictlySortedBy end_cmp) c.in_ok-ends.ensures.ends c.in_ok-ends.ensures.sorted)
     ∙ ap waiting_in c.self.view_is
