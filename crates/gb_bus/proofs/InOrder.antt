@@ -53,10 +53,10 @@ lookup-sorted n (e ∷ es) =
 
 -- ---- their numbers rise
 
-each-in : {X : Type 0} (P : ℕ → Type 0) (e : ℕ × X) (es : List (ℕ × X)) → P e.0
+each-more : {X : Type 0} (P : ℕ → Type 0) (e : ℕ × X) (es : List (ℕ × X)) → P e.0
     → Each P (keys_of es) → Each P (keys_of (in_order number_before e es))
-each-in P e [] own h = (own, tt)
-each-in P e (f ∷ es) own h = by (nat_le e.0 f.0) (each-in P e es own h.1)
+each-more P e [] own h = (own, tt)
+each-more P e (f ∷ es) own h = by (nat_le e.0 f.0) (each-more P e es own h.1)
   where
     by : (b : Bool) → Each P (keys_of (in_order number_before e es))
         → Each P (keys_of (cond b (e ∷ f ∷ es) (f ∷ in_order number_before e es)))
@@ -66,7 +66,13 @@ each-in P e (f ∷ es) own h = by (nat_le e.0 f.0) (each-in P e es own h.1)
 each-sorted : {X : Type 0} (P : ℕ → Type 0) (es : List (ℕ × X)) → Each P (keys_of es)
     → Each P (keys_of (by_number es))
 each-sorted P [] h = tt
-each-sorted P (e ∷ es) h = each-in P e (by_number es) h.0 (each-sorted P es h.1)
+each-sorted P (e ∷ es) h = each-more P e (by_number es) h.0 (each-sorted P es h.1)
+
+through-all : (k n : ℕ) (ms : List ℕ) → k < n → Each (λ m. n < m) ms → Each (λ m. k < m) ms
+through-all k n ms low h = each-weaker (λ m. n < m) (λ m. k < m) ms (λ m far. more k n m low far) h
+  where
+    more : (k n m : ℕ) → k < n → n < m → k < m
+    more k n m a b = omega (arith, a, b)
 
 rises-in : {X : Type 0} (e : ℕ × X) (es : List (ℕ × X))
     → Each (λ k. nat_eq e.0 k ≡ false) (keys_of es) → Rises (keys_of es)
@@ -81,21 +87,12 @@ rises-in e (f ∷ es) other h =
     above : (n m : ℕ) → nat_le n m ≡ false → m < n
     above n m low = grind (arith, nat_tests)
 
-    through : (k n m : ℕ) → k < n → n < m → k < m
-    through k n m a b = omega (arith, a, b)
-
     by : (b : Bool) → nat_le e.0 f.0 ≡ b → Rises (keys_of (in_order number_before e es))
         → Rises (keys_of (cond b (e ∷ f ∷ es) (f ∷ in_order number_before e es)))
     by true low later =
-        let first : e.0 < f.0 = below e.0 f.0 low other.0 in (
-          (
-            first,
-            each-weaker (λ m. f.0 < m) (λ m. e.0 < m) (keys_of es)
-                (λ m far. through e.0 f.0 m first far) h.0,
-          ),
-          h,
-        )
-    by false low later = (each-in (λ m. f.0 < m) e es (above e.0 f.0 low) h.0, later)
+        let first = below e.0 f.0 low other.0 in
+        ((first, through-all e.0 f.0 (keys_of es) first h.0), h)
+    by false low later = (each-more (λ m. f.0 < m) e es (above e.0 f.0 low) h.0, later)
 
 each-key : (P : ℕ → Type 0) (ks : List ℕ) → AllByRecursion P ks → Each P ks
 each-key P [] h = tt
@@ -150,12 +147,6 @@ past-head : {X : Type 0} (n : ℕ) (e : ℕ × X) (es : List (ℕ × X)) → n �
     → lookup (nat_eq n) (e ∷ es) ≡ lookup (nat_eq n) es
 past-head n e es ne =
     ap (λ b. cond b (Some e.1) (lookup (nat_eq n) es)) (other-number n e.0 ne)
-
-through-all : (k n : ℕ) (ms : List ℕ) → k < n → Each (λ m. n < m) ms → Each (λ m. k < m) ms
-through-all k n ms low h = each-weaker (λ m. n < m) (λ m. k < m) ms (λ m far. more k n m low far) h
-  where
-    more : (k n m : ℕ) → k < n → n < m → k < m
-    more k n m a b = omega (arith, a, b)
 
 -- Entries whose numbers rise are the same where the same is found at each number.
 same-entries : {X : Type 0} (es fs : List (ℕ × X)) → Rises (keys_of es) → Rises (keys_of fs)
