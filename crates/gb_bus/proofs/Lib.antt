@@ -14,6 +14,7 @@ pub mod Entries
 pub mod Expiring
 pub mod Finding
 pub mod First
+pub mod Grouping
 pub mod InOrder
 pub mod Injects
 pub mod Keeping

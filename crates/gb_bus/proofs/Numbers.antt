@@ -29,8 +29,8 @@ use Rattle.gb_ops.proofs.Listing.{rising}
 abbrev pub whichever : {X : Type 0} → X → Bool
 whichever x = true
 
-key-in : {X : Type 0} (n : ℕ) (es : List (ℕ × X)) → passes whichever (lookup (nat_eq n) es) ≡ true
-    → IsIn n (keys_of es)
+pub key-in : {X : Type 0} (n : ℕ) (es : List (ℕ × X))
+    → passes whichever (lookup (nat_eq n) es) ≡ true → IsIn n (keys_of es)
 key-in n [] there = absurd cc
 key-in {X} n (e ∷ es) there = by (nat_eq n e.0) refl there (key-in n es)
   where

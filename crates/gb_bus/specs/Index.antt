@@ -1,5 +1,7 @@
--- How live connections are kept: by number, the numbers by end, and the ends where something waits.
-use Rattle.std.specs.Prelude.{◌≡◌, ◌≢◌, ◌⊎◌, ℕ, true, false, Option, Some, None, IsSome}
+-- How live connections are kept: by number, the numbers by end and by interface, and the ends where
+-- something waits.
+use Rattle.std.specs.Prelude.{◌≡◌, ◌≢◌, ◌⊎◌, ℕ, ◌==◌, Bool, true, false, not, ◌&&◌, ◌||◌}
+use Rattle.std.specs.Prelude.{Option, Some, None, IsSome}
 use Rattle.std.specs.Prelude.{List, [], nat_eq}
 use Rattle.std.specs.HashMap as map
 use Rattle.std.specs.HashMap.{HashMap}
@@ -10,7 +12,11 @@ use Rattle.indexmap.specs.IndexMap.{IndexMap, IsUnique, get}
 use Rattle.gb_base.specs.declared.end.End.{End}
 use Rattle.gb_base.specs.declared.end.End.TheVariants as end
 use Rattle.gb_bus.specs.Ends.{is_far}
+use Rattle.gb_bus.specs.Listing.{stands_in}
 use Rattle.gb_bus.specs.declared.connection.Connection as code
+use Rattle.gb_groups.specs.Groups.{numbers_in}
+use Rattle.gb_machine.specs.Lists.{holds_of}
+use Rattle.gb_machine.specs.Wiring.{is_at}
 use Rattle.gb_switch.specs.Places.{end_cmp}
 use Rattle.gb_switch.specs.Queue.{has_items}
 use Rattle.gb_switch.specs.WaitingEnds.{is_in}
@@ -88,3 +94,30 @@ pub record Remarks (old new : List End) (x y : code.Connection) : Type 0 where
   pub far : y.peer ≡ x.peer
   pub own : IsMarked new y
   pub others : (at : End) → (IsEndOf at x → ⊥) → is_in new at ≡ is_in old at
+
+-- the far end of a connection is at an interface
+abbrev pub is_far_at : ℕ → code.Connection → Bool
+is_far_at i x = is_at i x.peer
+
+-- The numbers of an interface are those of the live connections whose far ends are at it.
+abbrev pub AreGrouped : List (List ℕ) → Live → Type 0
+AreGrouped groups live =
+    (i k : ℕ) → stands_in k (numbers_in groups i) ≡ holds_of (is_far_at i) (get nat_eq live k)
+
+-- an interface has a number more, where an end is at it
+abbrev pub Enters : List (List ℕ) → List (List ℕ) → End → ℕ → Type 0
+Enters old new at n =
+    (i k : ℕ) → stands_in k (numbers_in new i)
+    ≡ ((is_at i at && n == k) || stands_in k (numbers_in old i))
+
+-- an interface has a number less, where an end is at it
+abbrev pub Leaves : List (List ℕ) → List (List ℕ) → End → ℕ → Type 0
+Leaves old new at n =
+    (i k : ℕ) → stands_in k (numbers_in new i)
+    ≡ (not (is_at i at && n == k) && stands_in k (numbers_in old i))
+
+-- All that is kept of live connections.
+pub record AreKept (live : Live) (ends : Ends) (waiting : List End) (groups : List (List ℕ))
+    : Type 0 where
+  pub maps : MapsAgree live ends waiting
+  pub grouped : AreGrouped groups live

@@ -30,8 +30,9 @@ use crate::ends::other_side;
 use crate::numbered::Numbered;
 use crate::queue::{Item, ask_item};
 use crate::spare::Spare;
-use crate::{SendFault, end_numbers};
+use crate::{SendFault, end_numbers, interface_numbers};
 use gb_base::{End, OutOfMemory, Side};
+use gb_groups::Groups;
 use gb_ops::Matched;
 use gb_payload::protocols::SVC;
 use gb_switch::{Place, Waiting};
@@ -47,6 +48,8 @@ pub struct Connections {
     pub(crate) live: Numbered,
     /// The number of the one that has an end.
     pub(crate) ends: HashMap<Place, u64>,
+    /// The numbers of those whose far ends are at an interface, by interface.
+    pub(crate) grouped: Groups,
     /// The ends where something waits.
     pub(crate) waiting: Waiting,
     /// Those that are there no more.
@@ -59,12 +62,12 @@ impl Model for Connections {
 
     ghost Value = { List Connection };
 
-    ghost use Rattle.gb_bus.specs.Index.{MapsAgree};
+    ghost use Rattle.gb_bus.specs.Index.{AreKept};
     ghost use Rattle.gb_bus.specs.Seen.{seen_in_order};
 
     ghost view = { λ c. seen_in_order c.live.map.entries };
 
-    ghost invariant = { λ c. MapsAgree c.live.map c.ends c.waiting };
+    ghost invariant = { λ c. AreKept c.live.map c.ends c.waiting c.grouped };
 }
 
 impl Connections {
@@ -75,24 +78,26 @@ impl Connections {
     pub fn new(alloc: Global) -> Result<Connections, OutOfMemory>
         ensures { IfOk result (λ x. x ≡ svc ∷ []) }
     {
-        let mut connections = Connections::none(alloc);
+        let mut connections = Connections::none(alloc)?;
         connections.add(alloc, 1, 0, End::Svc, SVC)?;
         connections.wire(1);
         Ok(connections)
     }
 
     /// There is none.
-    fn none(alloc: Global) -> Connections
-        ensures { result ≡ [] }
+    fn none(alloc: Global) -> Result<Connections, OutOfMemory>
+        ensures { IfOk result (λ x. x ≡ []) }
     {
-        Connections {
+        let grouped = Groups::new(alloc)?;
+        Ok(Connections {
             live: Numbered {
                 map: IndexMap::new(alloc),
             },
             ends: HashMap::new(alloc),
+            grouped,
             waiting: Waiting::new(alloc),
             spare: Spare::new(alloc),
-        }
+        })
     }
 
     /// Adds a connection where its number belongs. After want of memory all is as before.
@@ -113,7 +118,11 @@ impl Connections {
     {
         let near = End::Ap(ap);
         let connection = self.spare.take(alloc, ap, peer, protocol)?;
-        end_numbers::set(&mut self.ends, near, peer, number)?;
+        interface_numbers::add(&mut self.grouped, peer, number)?;
+        if let Err(refused) = end_numbers::set(&mut self.ends, near, peer, number) {
+            interface_numbers::remove(&mut self.grouped, peer, number);
+            return Err(refused);
+        }
         match self.live.map.insert(number, connection) {
             Ok(former) => {
                 drop(former);
@@ -121,6 +130,7 @@ impl Connections {
             }
             Err(refused) => {
                 end_numbers::unset(&mut self.ends, near, peer);
+                interface_numbers::remove(&mut self.grouped, peer, number);
                 Err(OutOfMemory::from(refused))
             }
         }
@@ -176,6 +186,7 @@ impl Connections {
             return;
         };
         end_numbers::unset(&mut self.ends, End::Ap(connection.ap), connection.peer);
+        interface_numbers::remove(&mut self.grouped, connection.peer, k);
         connection.lose(&mut self.waiting);
         self.spare.keep(connection);
     }

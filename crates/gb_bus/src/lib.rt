@@ -10,6 +10,7 @@ mod delivering;
 mod end_numbers;
 mod ends;
 mod giving_up;
+mod interface_numbers;
 mod listing;
 mod lookups;
 mod naming;

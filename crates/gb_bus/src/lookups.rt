@@ -113,8 +113,8 @@ impl Connections {
     pub fn is_wired_to(&self, intf: u8) -> bool
         ensures { result ≡ list_any (is_wired_to intf) self.now }
     {
-        for (_, connection) in &self.live.map {
-            if connection.is_wired_to(intf) {
+        for number in self.grouped.of(intf) {
+            if self.wires_to(*number, intf) {
                 return true;
             }
         }
@@ -126,9 +126,8 @@ impl Connections {
         ensures { IfOk result
             (λ ns. ns ≡ map (λ c. c.number) (filter (is_wired_to intf) self.now)) }
     {
-        let all = self.live.numbers(alloc)?;
         let mut numbers = Numbers::new(alloc);
-        for number in all.items() {
+        for number in self.grouped.of(intf) {
             if self.wires_to(*number, intf) {
                 numbers.push(*number)?;
             }

@@ -3,10 +3,11 @@ use Rattle.std.proofs.Common.{Err, None, Some, ◌≡◌, ap, is_some, subst, sy
 use Rattle.std.proofs.lemmas.Result.{err_from_is_err_and}
 use Rattle.gb_bus.proofs.Asking.{asks-lost, asks-not, asks-waits, made}
 use Rattle.gb_bus.proofs.Entries.{set-again}
+use Rattle.gb_bus.proofs.Grouping.{all-change, all-same, all-set}
 use Rattle.gb_bus.specs.Ends.{is_far}
 use Rattle.gb_bus.specs.Parts.{put}
 use Rattle.gb_bus.specs.declared.queue.Item.TheVariants as item
-use Rattle.gb_bus.proofs.Keeping.{kept-change, kept-same, kept-set, marks-after, same-marks}
+use Rattle.gb_bus.proofs.Keeping.{marks-after, same-marks}
 use Rattle.gb_bus.proofs.SeeingChanges.{finds}
 use Rattle.gb_bus.specs.Seen.{seen, seen_in_order}
 use Rattle.gb_bus.specs.Sides.{AsksIn}
@@ -14,7 +15,7 @@ use Rattle.gb_bus.proofs.connections.Connections.ask.Goals as goal
 
 pub invariant_of-self : goal.invariant_of-self
 invariant_of-self c =
-    kept-same c.self.inside.live.map c.get_mut.follows.lender-at-none.map c.self.inside.ends
+    all-same c.self.inside.live.map c.get_mut.follows.lender-at-none.map c.self.inside.ends
     c.self.inside.waiting c.get_mut.follows.holds-at-none c.self.invariant
 
 pub returns-in_default : goal.returns-in_default
@@ -26,7 +27,7 @@ returns-in_default c = (
 
 pub invariant_of-self-in_err-label : goal.invariant_of-self-in_err-label
 invariant_of-self-in_err-label c =
-    kept-set c.self.inside.live.map (c.get_mut.follows.lender c.label_for.new.self).map
+    all-set c.self.inside.live.map (c.get_mut.follows.lender c.label_for.new.self).map
     c.self.inside.ends c.self.inside.waiting c.args.k c.in-Some.connection.now c.label_for.new.self
     (sym c.in-Some.ensures.value) (c.get_mut.follows.holds c.label_for.new.self)
     c.label_for.ensures.ends c.self.invariant
@@ -43,13 +44,13 @@ returns-in_err-label c =
     c.self.inside.ends c.self.inside.waiting c.args.self.now c.args.k c.args.draft.now.side
     c.args.draft.now.number c.args.draft.now.kind c.args.draft.now.payload.now
     c.args.draft.now.deadline c.args.draft.now.oneway c.in_err-label.field-0.0
-    c.in-Some.connection.now c.label_for.new.self c.self.invariant c.self.view_is
+    c.in-Some.connection.now c.label_for.new.self c.self.invariant.maps c.self.view_is
     (sym c.in-Some.ensures.value) (c.get_mut.follows.holds c.label_for.new.self)
     c.in_err-label.ensures.labels)
 
 pub invariant_of-self-then-not-connection : goal.invariant_of-self-then-not-connection
 invariant_of-self-then-not-connection c =
-    kept-set c.self.inside.live.map (c.get_mut.follows.lender c.label_for.new.self).map
+    all-set c.self.inside.live.map (c.get_mut.follows.lender c.label_for.new.self).map
     c.self.inside.ends c.self.inside.waiting c.args.k c.in-Some.connection.now c.label_for.new.self
     (sym c.in-Some.ensures.value) (c.get_mut.follows.holds c.label_for.new.self)
     c.label_for.ensures.ends c.self.invariant
@@ -64,14 +65,14 @@ returns-then-not-connection c =
     (made c.self.inside.live.map (c.get_mut.follows.lender c.label_for.new.self).map
     c.self.inside.ends c.self.inside.waiting c.args.k c.args.draft.now.side
     c.args.draft.now.number c.args.draft.now.deadline c.args.draft.now.oneway
-    c.in_ok-label.label c.in-Some.connection.now c.label_for.new.self c.self.invariant
+    c.in_ok-label.label c.in-Some.connection.now c.label_for.new.self c.self.invariant.maps
     (sym c.in-Some.ensures.value) (c.get_mut.follows.holds c.label_for.new.self)
     c.in_ok-label.ensures.labels c.label_for.ensures.ends)
     c.self.view_is c.if-not-connection.true
 
 pub invariant_of-self-in_err-item : goal.invariant_of-self-in_err-item
 invariant_of-self-in_err-item c =
-    kept-set c.self.inside.live.map (c.get_mut.follows.lender c.label_for.new.self).map
+    all-set c.self.inside.live.map (c.get_mut.follows.lender c.label_for.new.self).map
     c.self.inside.ends c.self.inside.waiting c.args.k c.in-Some.connection.now c.label_for.new.self
     (sym c.in-Some.ensures.value) (c.get_mut.follows.holds c.label_for.new.self)
     c.label_for.ensures.ends c.self.invariant
@@ -92,18 +93,19 @@ returns-in_err-item c =
 pub push-requires-clause-far : goal.push-requires-clause-far
 push-requires-clause-far c =
     ap is_far c.label_for.ensures.ends.far
-    ∙ (c.self.invariant.indexed c.args.k c.in-Some.connection.now
+    ∙ (c.self.invariant.maps.indexed c.args.k c.in-Some.connection.now
     (sym c.in-Some.ensures.value)).beyond
 
 pub push-requires-clause-marked : goal.push-requires-clause-marked
 push-requires-clause-marked c =
     (same-marks c.self.inside.waiting c.in-Some.connection.now c.label_for.new.self
     c.label_for.ensures.ends
-    (c.self.invariant.marked c.args.k c.in-Some.connection.now (sym c.in-Some.ensures.value))).own
+    (c.self.invariant.maps.marked c.args.k c.in-Some.connection.now
+    (sym c.in-Some.ensures.value))).own
 
 pub invariant_of-self-in_err-push : goal.invariant_of-self-in_err-push
 invariant_of-self-in_err-push c =
-    kept-change c.self.inside.live.map (c.get_mut.follows.lender c.push.new.self).map
+    all-change c.self.inside.live.map (c.get_mut.follows.lender c.push.new.self).map
     c.self.inside.ends c.self.inside.waiting c.push.new.waiting c.args.k c.in-Some.connection.now
     c.push.new.self (sym c.in-Some.ensures.value) (c.get_mut.follows.holds c.push.new.self)
     (marks-after c.self.inside.waiting c.push.new.waiting c.in-Some.connection.now
@@ -125,7 +127,7 @@ returns-in_err-push c =
 
 pub invariant_of-self-2 : goal.invariant_of-self-2
 invariant_of-self-2 c =
-    kept-change c.self.inside.live.map (c.get_mut.follows.lender c.push.new.self).map
+    all-change c.self.inside.live.map (c.get_mut.follows.lender c.push.new.self).map
     c.self.inside.ends c.self.inside.waiting c.push.new.waiting c.args.k c.in-Some.connection.now
     c.push.new.self (sym c.in-Some.ensures.value) (c.get_mut.follows.holds c.push.new.self)
     (marks-after c.self.inside.waiting c.push.new.waiting c.in-Some.connection.now
@@ -143,7 +145,7 @@ returns c =
     (made c.self.inside.live.map (c.get_mut.follows.lender c.label_for.new.self).map
     c.self.inside.ends c.self.inside.waiting c.args.k c.args.draft.now.side
     c.args.draft.now.number c.args.draft.now.deadline c.args.draft.now.oneway
-    c.in_ok-label.label c.in-Some.connection.now c.label_for.new.self c.self.invariant
+    c.in_ok-label.label c.in-Some.connection.now c.label_for.new.self c.self.invariant.maps
     (sym c.in-Some.ensures.value) (c.get_mut.follows.holds c.label_for.new.self)
     c.in_ok-label.ensures.labels c.label_for.ensures.ends)
     c.self.view_is c.if-not-connection.false

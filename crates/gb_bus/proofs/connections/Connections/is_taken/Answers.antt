@@ -7,13 +7,13 @@ use Rattle.gb_bus.proofs.connections.Connections.is_taken.Goals as goal
 pub returns-then-contains_key : goal.returns-then-contains_key
 returns-then-contains_key c =
     taken-first c.self.inside.live.map c.self.inside.ends c.self.inside.waiting c.args.self.now
-    c.args.number c.args.ap c.args.peer c.self.invariant c.self.view_is c.requires.far
+    c.args.number c.args.ap c.args.peer c.self.invariant.maps c.self.view_is c.requires.far
     (sym c.contains_key.ensures ∙ c.if-contains_key.true)
 
 pub returns-then-contains_key-2 : goal.returns-then-contains_key-2
 returns-then-contains_key-2 c =
     taken-second c.self.inside.live.map c.self.inside.ends c.self.inside.waiting c.args.self.now
-    c.args.number c.args.ap c.args.peer c.self.invariant c.self.view_is c.requires.far
+    c.args.number c.args.ap c.args.peer c.self.invariant.maps c.self.view_is c.requires.far
     (sym c.contains_key.ensures ∙ c.if-contains_key.false)
     (ap (λ e. is_some (number_at c.self.inside.ends e)) (sym c.of.ensures)
     ∙ sym c.contains_key-2.ensures ∙ c.if-contains_key-2.true)
@@ -23,7 +23,7 @@ returns c =
     c.contains_key-3.ensures
     ∙ ap (λ e. is_some (number_at c.self.inside.ends e)) c.of-2.ensures
     ∙ taken-last c.self.inside.live.map c.self.inside.ends c.self.inside.waiting c.args.self.now
-    c.args.number c.args.ap c.args.peer c.self.invariant c.self.view_is c.requires.far
+    c.args.number c.args.ap c.args.peer c.self.invariant.maps c.self.view_is c.requires.far
     (sym c.contains_key.ensures ∙ c.if-contains_key.false)
     (ap (λ e. is_some (number_at c.self.inside.ends e)) (sym c.of.ensures)
     ∙ sym c.contains_key-2.ensures ∙ c.if-contains_key-2.false)

@@ -15,7 +15,7 @@ returns-in_err-number c =
     ∙ sym (ap (option_map (λ (x : Connection). x.number))
     (ap (find (joins c.args.ap c.args.peer)) (sym c.self.view_is)
     ∙ joins-nowhere (ordered c.self.inside.live.map) c.self.inside.ends
-    c.self.inside.waiting c.args.ap c.args.peer (agree-ordered c.self.invariant)
+    c.self.inside.waiting c.args.ap c.args.peer (agree-ordered c.self.invariant.maps)
     (ap (number_at c.self.inside.ends) (sym c.of.ensures) ∙ sym c.in_err-number.ensures.value)))
 
 pub returns-in_err-connection : goal.returns-in_err-connection
@@ -25,7 +25,7 @@ returns-in_err-connection c =
     (ap (find (joins c.args.ap c.args.peer)) (sym c.self.view_is)
     ∙ joins-dead (ordered c.self.inside.live.map) c.self.inside.ends
     c.self.inside.waiting c.args.ap c.args.peer c.in_ok-number.field-0.now
-    (agree-ordered c.self.invariant)
+    (agree-ordered c.self.invariant.maps)
     (ap (number_at c.self.inside.ends) (sym c.of.ensures) ∙ sym c.in_ok-number.ensures.value)
     (get-ordered c.self.inside.live.map c.in_ok-number.field-0.now
     ∙ sym c.in_err-connection.ensures)))
@@ -36,7 +36,7 @@ returns-then-joins c =
     (ap (find (joins c.args.ap c.args.peer)) (sym c.self.view_is)
     ∙ joins-there (ordered c.self.inside.live.map) c.self.inside.ends
     c.self.inside.waiting c.args.ap c.args.peer c.in_ok-number.field-0.now
-    c.in_ok-connection.connection.now (agree-ordered c.self.invariant)
+    c.in_ok-connection.connection.now (agree-ordered c.self.invariant.maps)
     (ap (number_at c.self.inside.ends) (sym c.of.ensures) ∙ sym c.in_ok-number.ensures.value)
     (get-ordered c.self.inside.live.map c.in_ok-number.field-0.now
     ∙ sym c.in_ok-connection.ensures)
@@ -49,7 +49,7 @@ returns-else-joins c =
     (ap (find (joins c.args.ap c.args.peer)) (sym c.self.view_is)
     ∙ joins-there (ordered c.self.inside.live.map) c.self.inside.ends
     c.self.inside.waiting c.args.ap c.args.peer c.in_ok-number.field-0.now
-    c.in_ok-connection.connection.now (agree-ordered c.self.invariant)
+    c.in_ok-connection.connection.now (agree-ordered c.self.invariant.maps)
     (ap (number_at c.self.inside.ends) (sym c.of.ensures) ∙ sym c.in_ok-number.ensures.value)
     (get-ordered c.self.inside.live.map c.in_ok-number.field-0.now
     ∙ sym c.in_ok-connection.ensures)

@@ -12,5 +12,5 @@ returns c =
     c.loop-number-test.false))
     ∙ c.loop-number.invariant
     ∙ told-all c.items-number-items.result.now c.self.inside.live.map.entries c.args.self.now
-    c.self.invariant.unique c.self.view_is
-    (c.items-number-items.ensures ∙ c.in_ok-numbers.ensures c.self.invariant.unique)
+    c.self.invariant.maps.unique c.self.view_is
+    (c.items-number-items.ensures ∙ c.in_ok-numbers.ensures c.self.invariant.maps.unique)

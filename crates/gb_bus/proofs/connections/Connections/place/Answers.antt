@@ -11,7 +11,7 @@ returns-in-Some c =
     places-counted (ordered c.self.inside.live.map) c.self.inside.ends
     c.self.inside.waiting c.args.at
     c.in-Some.found.0 c.in-Some.found.1
-    (agree-ordered c.self.invariant)
+    (agree-ordered c.self.invariant.maps)
     (side-ordered c.self.inside.live.map c.in-Some.found.0 c.args.at c.in-Some.found.1
     c.in-Some.ensures)
     ∙ ap (place_at c.args.at) c.self.view_is
@@ -21,7 +21,7 @@ returns-in_err-number c =
     c.from_residual.ensures
     ∙ sym (places-nowhere (ordered c.self.inside.live.map) c.self.inside.ends
     c.self.inside.waiting c.args.at
-    (agree-ordered c.self.invariant)
+    (agree-ordered c.self.invariant.maps)
     (ap (number_at c.self.inside.ends) (sym c.of.ensures) ∙ sym c.in_err-number.ensures.value))
     ∙ ap (place_at c.args.at) c.self.view_is
 
@@ -30,7 +30,7 @@ returns-in_err-get c =
     c.from_residual-in_err-get.ensures
     ∙ sym (places-dead (ordered c.self.inside.live.map) c.self.inside.ends
     c.self.inside.waiting c.args.at
-    c.in_ok-number.field-0.now (agree-ordered c.self.invariant)
+    c.in_ok-number.field-0.now (agree-ordered c.self.invariant.maps)
     (ap (number_at c.self.inside.ends) (sym c.of.ensures) ∙ sym c.in_ok-number.ensures.value)
     (get-ordered c.self.inside.live.map c.in_ok-number.field-0.now ∙ sym c.in_err-get.ensures))
     ∙ ap (place_at c.args.at) c.self.view_is
@@ -42,7 +42,7 @@ returns-in_err-side c =
     (sym c.in_err-side.was ∙ c.side_at.ensures)
     ∙ sym (places (ordered c.self.inside.live.map) c.self.inside.ends
     c.self.inside.waiting c.args.at
-    c.in_ok-number.field-0.now c.in_ok-get.field-0.now (agree-ordered c.self.invariant)
+    c.in_ok-number.field-0.now c.in_ok-get.field-0.now (agree-ordered c.self.invariant.maps)
     (ap (number_at c.self.inside.ends) (sym c.of.ensures) ∙ sym c.in_ok-number.ensures.value)
     (get-ordered c.self.inside.live.map c.in_ok-number.field-0.now ∙ sym c.in_ok-get.ensures))
     ∙ ap (place_at c.args.at) c.self.view_is
@@ -53,7 +53,7 @@ returns c =
     (sym c.in_ok-side.was ∙ c.side_at.ensures)
     ∙ sym (places (ordered c.self.inside.live.map) c.self.inside.ends
     c.self.inside.waiting c.args.at
-    c.in_ok-number.field-0.now c.in_ok-get.field-0.now (agree-ordered c.self.invariant)
+    c.in_ok-number.field-0.now c.in_ok-get.field-0.now (agree-ordered c.self.invariant.maps)
     (ap (number_at c.self.inside.ends) (sym c.of.ensures) ∙ sym c.in_ok-number.ensures.value)
     (get-ordered c.self.inside.live.map c.in_ok-number.field-0.now ∙ sym c.in_ok-get.ensures))
     ∙ ap (place_at c.args.at) c.self.view_is

@@ -1,6 +1,6 @@
 -- The connection with the number is closed on the side of the application processor.
 use Rattle.std.proofs.Common.{ap, sym, ◌∙◌}
-use Rattle.gb_bus.proofs.Keeping.{kept-same, kept-set}
+use Rattle.gb_bus.proofs.Grouping.{all-same, all-set}
 use Rattle.gb_bus.proofs.SeeingChanges.{changes-one, closed-ends, filled}
 use Rattle.gb_bus.proofs.SeeingChanges.{marked-ends, nothing-changes}
 use Rattle.gb_bus.specs.Parts.{closed, numbered}
@@ -10,7 +10,7 @@ use Rattle.gb_bus.proofs.connections.Connections.shut.Goals as goal
 
 pub invariant_of-self : goal.invariant_of-self
 invariant_of-self c =
-    kept-same c.self.inside.live.map c.get_mut.follows.lender-at-none.map c.self.inside.ends
+    all-same c.self.inside.live.map c.get_mut.follows.lender-at-none.map c.self.inside.ends
     c.self.inside.waiting c.get_mut.follows.holds-at-none c.self.invariant
 
 pub returns-in_default : goal.returns-in_default
@@ -22,7 +22,7 @@ returns-in_default c =
 
 pub invariant_of-self-2 : goal.invariant_of-self-2
 invariant_of-self-2 c =
-    kept-set c.self.inside.live.map (c.get_mut.follows.lender c.shut.new.self).map
+    all-set c.self.inside.live.map (c.get_mut.follows.lender c.shut.new.self).map
     c.self.inside.ends c.self.inside.waiting c.args.k c.in-Some.connection.now c.shut.new.self
     (sym c.in-Some.ensures.value) (c.get_mut.follows.holds c.shut.new.self)
     (marked-ends closed closed-ends (seen 0 c.in-Some.connection.now) (seen 0 c.shut.new.self)
@@ -32,6 +32,7 @@ pub returns : goal.returns
 returns c =
     changes-one c.self.inside.live.map (c.get_mut.follows.lender c.shut.new.self).map
     c.self.inside.ends c.self.inside.waiting c.args.k c.in-Some.connection.now c.shut.new.self
-    closed c.self.invariant (sym c.in-Some.ensures.value) (c.get_mut.follows.holds c.shut.new.self)
+    closed c.self.invariant.maps (sym c.in-Some.ensures.value)
+    (c.get_mut.follows.holds c.shut.new.self)
     (ap (filled c.args.k) c.shut.ensures)
     ∙ ap (at_first (numbered c.args.k) closed) c.self.view_is

@@ -1,6 +1,6 @@
 -- The connection with the number is unclean.
 use Rattle.std.proofs.Common.{ap, sym, ◌∙◌}
-use Rattle.gb_bus.proofs.Keeping.{kept-same, kept-set}
+use Rattle.gb_bus.proofs.Grouping.{all-same, all-set}
 use Rattle.gb_bus.proofs.SeeingChanges.{changes-one, filled, marked-ends}
 use Rattle.gb_bus.proofs.SeeingChanges.{nothing-changes, soiled-ends}
 use Rattle.gb_bus.specs.Parts.{numbered, soiled}
@@ -10,7 +10,7 @@ use Rattle.gb_bus.proofs.connections.Connections.soil.Goals as goal
 
 pub invariant_of-self : goal.invariant_of-self
 invariant_of-self c =
-    kept-same c.self.inside.live.map c.get_mut.follows.lender-at-none.map c.self.inside.ends
+    all-same c.self.inside.live.map c.get_mut.follows.lender-at-none.map c.self.inside.ends
     c.self.inside.waiting c.get_mut.follows.holds-at-none c.self.invariant
 
 pub returns-in_default : goal.returns-in_default
@@ -22,7 +22,7 @@ returns-in_default c =
 
 pub invariant_of-self-2 : goal.invariant_of-self-2
 invariant_of-self-2 c =
-    kept-set c.self.inside.live.map (c.get_mut.follows.lender c.soil.new.self).map
+    all-set c.self.inside.live.map (c.get_mut.follows.lender c.soil.new.self).map
     c.self.inside.ends c.self.inside.waiting c.args.k c.in-Some.connection.now c.soil.new.self
     (sym c.in-Some.ensures.value) (c.get_mut.follows.holds c.soil.new.self)
     (marked-ends soiled soiled-ends (seen 0 c.in-Some.connection.now) (seen 0 c.soil.new.self)
@@ -32,6 +32,7 @@ pub returns : goal.returns
 returns c =
     changes-one c.self.inside.live.map (c.get_mut.follows.lender c.soil.new.self).map
     c.self.inside.ends c.self.inside.waiting c.args.k c.in-Some.connection.now c.soil.new.self
-    soiled c.self.invariant (sym c.in-Some.ensures.value) (c.get_mut.follows.holds c.soil.new.self)
+    soiled c.self.invariant.maps (sym c.in-Some.ensures.value)
+    (c.get_mut.follows.holds c.soil.new.self)
     (ap (filled c.args.k) c.soil.ensures)
     ∙ ap (at_first (numbered c.args.k) soiled) c.self.view_is

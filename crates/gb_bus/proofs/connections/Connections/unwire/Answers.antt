@@ -1,6 +1,6 @@
 -- The connection with the number is cleared.
 use Rattle.std.proofs.Common.{ap, sym, ◌∙◌}
-use Rattle.gb_bus.proofs.Keeping.{kept-change, kept-same}
+use Rattle.gb_bus.proofs.Grouping.{all-change, all-same}
 use Rattle.gb_bus.proofs.SeeingChanges.{changes-one, filled, nothing-changes}
 use Rattle.gb_bus.specs.Parts.{cleared, numbered}
 use Rattle.gb_bus.specs.Seen.{seen_in_order}
@@ -9,7 +9,7 @@ use Rattle.gb_bus.proofs.connections.Connections.unwire.Goals as goal
 
 pub invariant_of-self : goal.invariant_of-self
 invariant_of-self c =
-    kept-same c.self.inside.live.map c.get_mut.follows.lender-at-none.map c.self.inside.ends
+    all-same c.self.inside.live.map c.get_mut.follows.lender-at-none.map c.self.inside.ends
     c.self.inside.waiting c.get_mut.follows.holds-at-none c.self.invariant
 
 pub returns-in_default : goal.returns-in_default
@@ -21,12 +21,12 @@ returns-in_default c =
 
 pub clear-requires : goal.clear-requires
 clear-requires c =
-    (c.self.invariant.indexed c.args.k c.in-Some.connection.now
+    (c.self.invariant.maps.indexed c.args.k c.in-Some.connection.now
     (sym c.in-Some.ensures.value)).beyond
 
 pub invariant_of-self-2 : goal.invariant_of-self-2
 invariant_of-self-2 c =
-    kept-change c.self.inside.live.map (c.get_mut.follows.lender c.clear.new.self).map
+    all-change c.self.inside.live.map (c.get_mut.follows.lender c.clear.new.self).map
     c.self.inside.ends c.self.inside.waiting c.clear.new.waiting c.args.k
     c.in-Some.connection.now c.clear.new.self (sym c.in-Some.ensures.value)
     (c.get_mut.follows.holds c.clear.new.self) c.clear.ensures.marks c.self.invariant
@@ -35,6 +35,6 @@ pub returns : goal.returns
 returns c =
     changes-one c.self.inside.live.map (c.get_mut.follows.lender c.clear.new.self).map
     c.self.inside.ends c.self.inside.waiting c.args.k c.in-Some.connection.now c.clear.new.self
-    cleared c.self.invariant (sym c.in-Some.ensures.value)
+    cleared c.self.invariant.maps (sym c.in-Some.ensures.value)
     (c.get_mut.follows.holds c.clear.new.self) (ap (filled c.args.k) c.clear.ensures.cleared)
     ∙ ap (at_first (numbered c.args.k) cleared) c.self.view_is

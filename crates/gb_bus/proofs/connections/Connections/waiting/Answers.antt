@@ -17,6 +17,6 @@ returns c =
     ∙ ap (map (waiting_at c.args.self.now)) (c.items-at-items.ensures ∙ c.in_ok-ends.ensures.ends)
     ∙ ap (λ xs. map (waiting_at xs) c.self.inside.waiting) (sym c.self.view_is)
     ∙ waiting-is (ordered c.self.inside.live.map) c.self.inside.ends c.self.inside.waiting
-    (agree-ordered c.self.invariant)
+    (agree-ordered c.self.invariant.maps)
     (subst (IsStrictlySortedBy end_cmp) c.in_ok-ends.ensures.ends c.in_ok-ends.ensures.sorted)
     ∙ ap waiting_in c.self.view_is
