@@ -57,13 +57,13 @@ enough credits n h =
 -- the credits of a bridge line are taken
 pub takes-credits : (x : Host) (h : machine.Host) (what : BridgeAsk) (k : ℕ) (o : Option Link)
     (link l : Link) (n : ℕ) (items : List Link)
-    → Stands x h → o ≡ find (λ l. l.connection == k) x.links.live.items → o ≡ Some link
+    → Stands x h → o ≡ find (λ l. l.connection == k) x.links.items → o ≡ Some link
     → link_of k h ≡ Some l → n ≡ credits_taken what
-    → items ≡ at_first (is_link link.intf link.cport) (with_fewer n) x.links.live.items
+    → items ≡ at_first (is_link link.intf link.cport) (with_fewer n) x.links.items
     → with_link l.intf l.cport (spent what) h
     ≡ record { interfaces = x.interfaces; links = items; images = x.images }
 takes-credits x h what k o link l n items s e is there taken new =
-    let links = x.links.live.items in
+    let links = x.links.items in
     let same = same-link x h k o link l s e is there in
     ap (λ g. with_link l.intf l.cport (spent what) g) s
     ∙ ap (λ (m : Link). record {

@@ -1,14 +1,13 @@
 -- Connections of which the first ones wait for nothing.
 use Rattle.std.proofs.Common.{◌≡◌, ◌==◌, ◌<◌, ◌≤◌, ◌+◌, ◌-◌, ℕ, zero, suc, Bool, true, false}
-use Rattle.std.proofs.Common.{cond, not, Option, None, Some, List, [], ◌∷◌, ◌++◌, length, drop}
+use Rattle.std.proofs.Common.{cond, not, Option, None, Some, List, [], ◌∷◌, length, drop}
 use Rattle.std.proofs.Common.{get_or, refl, sym, ap, ◌∙◌, arith, subst}
-use Rattle.std.proofs.Math.ListN.{get_or-append}
 use Rattle.std.proofs.lemmas.Bool.Decides.{nat_tests}
 use Rattle.std.proofs.lemmas.List.{get_or_default}
 use Rattle.std.proofs.lemmas.List.Sums.{count_by-le-length, length-filter}
 use Rattle.std.specs.Option.{is_some}
 use Rattle.gb_base.specs.declared.interface.Link.{Link}
-use Rattle.gb_host.specs.Indexes.{AreIdle}
+use Rattle.gb_host.specs.Indexes.{AreIdle, IsIdleTo}
 use Rattle.gb_machine.specs.Bus.{or_else}
 use Rattle.gb_machine.specs.Lists.{without}
 use Rattle.gb_machine.specs.Waits.{link_waits, purpose_in}
@@ -35,23 +34,16 @@ waits-next n (l ∷ ls) (suc place) d within none =
     ap (λ j. link_waits n (drop j (l ∷ ls))) e
     ∙ waits-next n ls place d (omega (arith, within)) none
 
--- one more goes to the end
-pub idle-added : (ls : List Link) (l : Link) (idle : ℕ) → idle ≤ length ls → AreIdle idle ls
-    → AreIdle idle (ls ++ l ∷ [])
-idle-added ls l idle within quiet i d h =
-    let before : i < length ls = omega (arith, within, h) in
-    ap (λ (m : Link). m.awaits) (get_or-append ls (l ∷ []) d i before) ∙ quiet i d h
-
 -- the next waits for nothing
-pub idle-next : (ls : List Link) (l : Link) (place : ℕ) → place < length ls
-    → l ≡ get_or ls place l → l.awaits ≡ None → AreIdle place ls → AreIdle (place + 1) ls
-idle-next ls l place within is none quiet i d h = by (i == place) refl
+pub idle-next : (ls : List Link) (place : ℕ) (l : Link) → place < length ls
+    → (get_or ls place l).awaits ≡ None → AreIdle place ls → AreIdle (place + 1) ls
+idle-next ls place l within none quiet i d h = by (i == place) refl
   where
     by : (b : Bool) → (i == place) ≡ b → (get_or ls i d).awaits ≡ None
     by true e =
         let same : place ≡ i = grind (arith, nat_tests) in
         subst (λ p. (get_or ls p d).awaits ≡ None) same
-        (ap (λ (m : Link). m.awaits) (get_or_default ls place d l within ∙ sym is) ∙ none)
+        (ap (λ (m : Link). m.awaits) (get_or_default ls place d l within) ∙ none)
     by false e =
         let below : i < place = grind (arith, nat_tests) in quiet i d below
 
@@ -79,13 +71,18 @@ idle-stays p (l ∷ ls) idle quiet =
     by false later zero d h = quiet zero d (omega (arith, h))
     by false later (suc i) d h = later i d (omega (arith, most, h))
 
--- once so many are gone, so many fewer are known to wait for nothing
-pub idle-left : (p : Link → Bool) (ls ms : List Link) (idle gone : ℕ) → ms ≡ without p ls
-    → gone ≡ length ls - length ms → AreIdle idle ls → AreIdle (idle - gone) ms
-idle-left p ls ms idle gone e count quiet =
-    subst (λ n. AreIdle (idle - n) ms) (sym count)
-    (subst (λ ks. AreIdle (idle - (length ls - length ks)) ks) (sym e)
-    (idle-stays p ls idle quiet))
+-- once so many are gone, a place is found from behind those that are known to wait for nothing
+pub idle-left : (p : Link → Bool) (ls ms ns : List Link) (idle gone from to : ℕ)
+    → ms ≡ without p ls → ns ≡ ms → gone ≡ length ls - length ms → from ≡ idle - gone
+    → IsIdleTo idle ls → to ≤ length ns → (AreIdle from ns → AreIdle to ns) → IsIdleTo to ms
+idle-left p ls ms ns idle gone from to e same count begins known within finds =
+    subst (IsIdleTo to) same (record {
+      within = within;
+      idle = finds (subst (λ n. AreIdle n ns) (sym (begins ∙ ap (λ n. idle - n) count))
+          (subst (λ ks. AreIdle (idle - (length ls - length ms)) ks) (sym same)
+          (subst (λ ks. AreIdle (idle - (length ls - length ks)) ks) (sym e)
+          (idle-stays p ls idle known.idle))));
+    })
 
 -- nothing that is there is waited for
 pub none-awaited : {A : Type 0} (o : Option A) → is_some o ≡ false → o ≡ None

@@ -1,14 +1,13 @@
 -- What is kept to look connections up stays right.
-use Rattle.std.proofs.Common.{◌≡◌, ◌&&◌, ◌≤◌, ◌+◌, ℕ, Bool, true, List, [], ◌∷◌, ◌++◌, length}
-use Rattle.std.proofs.Common.{length-append, refl, sym, ap, ◌∙◌, arith, subst}
+use Rattle.std.proofs.Common.{◌≡◌, ◌&&◌, ℕ, Bool, true, List, [], ◌∷◌, ◌++◌, refl, sym, ap, ◌∙◌}
+use Rattle.std.proofs.Common.{subst}
 use Rattle.gb_base.specs.declared.interface.Link.{Link}
 use Rattle.gb_host.proofs.Counts.{counts-kept}
-use Rattle.gb_host.proofs.Idle.{idle-added}
 use Rattle.gb_host.proofs.Named.{find-kept, number_of}
 use Rattle.gb_host.proofs.Rising.{and-both, rises-kept, rises-without}
 use Rattle.gb_host.specs.Changes.{link_changed}
 use Rattle.gb_host.specs.Counts.{AreCounted}
-use Rattle.gb_host.specs.Indexes.{AreIdle, AreIndexed, Rises}
+use Rattle.gb_host.specs.Indexes.{AreIndexed, Rises}
 use Rattle.gb_host.specs.Named.{AreNamed}
 use Rattle.gb_host.specs.declared.cports.Cports.{Cports}
 use Rattle.gb_host.specs.declared.ends.Ends.{Ends}
@@ -38,31 +37,27 @@ end-stays i p (link.Fewer taken) l = refl
 end-stays i p (link.Awaits w) l = refl
 
 -- a connection is changed
-pub indexed-kept : (cports : Cports) (ends : Ends) (known : Bool) (old new : ℕ) (test : Link → Bool)
+pub indexed-kept : (cports : Cports) (ends : Ends) (known : Bool) (test : Link → Bool)
     (c : LinkChange) (ls ms : List Link) → ms ≡ at_first test (link_changed c) ls
-    → AreIndexed cports ends known old ls → new ≤ length ms → AreIdle new ms
-    → AreIndexed cports ends known new ms
-indexed-kept cports ends known old new test c ls ms e indexed within quiet = record {
+    → AreIndexed cports ends known ls → AreIndexed cports ends known ms
+indexed-kept cports ends known test c ls ms e indexed = record {
   counted = counts-kept cports test (link_changed c) ls ms (ap-stays c) indexed.counted e;
   rises = λ says. rises-kept test (link_changed c) ls ms (number-stays c) e (indexed.rises says);
   named = λ says i p fits.
       indexed.named says i p fits
       ∙ sym (find-kept test (is_link i p) (link_changed c) (end-stays i p c) (number-stays c) ls)
       ∙ ap (λ ns. number_of (find (is_link i p) ns)) (sym e);
-  within = within;
-  idle = quiet;
 }
 
 -- a connection goes to the end
 pub indexed-added : (cports cports' : Cports) (ends ends' : Ends) (known rises named : Bool)
-    (idle : ℕ) (ls ms : List Link) (l : Link) → ms ≡ ls ++ l ∷ []
-    → AreIndexed cports ends known idle ls
+    (ls ms : List Link) (l : Link) → ms ≡ ls ++ l ∷ [] → AreIndexed cports ends known ls
     → (AreCounted cports ls → AreCounted cports' (ls ++ l ∷ []))
     → (rises ≡ true → Rises ls → Rises (ls ++ l ∷ []))
     → (AreNamed ends ls → named ≡ true → AreNamed ends' (ls ++ l ∷ []))
-    → AreIndexed cports' ends' (known && (rises && named)) idle ms
-indexed-added cports cports' ends ends' known rises named idle ls ms l e indexed comes risen known'
-    = subst (AreIndexed cports' ends' (known && (rises && named)) idle) (sym e) (record {
+    → AreIndexed cports' ends' (known && (rises && named)) ms
+indexed-added cports cports' ends ends' known rises named ls ms l e indexed comes risen known' =
+    subst (AreIndexed cports' ends' (known && (rises && named))) (sym e) (record {
       counted = comes indexed.counted;
       rises = λ says.
           let both = and-both known (rises && named) says in
@@ -70,23 +65,15 @@ indexed-added cports cports' ends ends' known rises named idle ls ms l e indexed
       named = λ says.
           let both = and-both known (rises && named) says in
           known' (indexed.named both.0) (and-both rises named both.1).1;
-      within =
-          let count : length (ls ++ l ∷ []) ≡ length ls + 1 = length-append ls (l ∷ []) in
-          let most = indexed.within in omega (arith, count, most);
-      idle = idle-added ls l idle indexed.within indexed.idle;
     })
 
 -- some connections leave
-pub indexed-left : (cports cports' : Cports) (ends ends' : Ends) (known : Bool) (old new : ℕ)
+pub indexed-left : (cports cports' : Cports) (ends ends' : Ends) (known : Bool)
     (test : Link → Bool) (ls ms : List Link) → ms ≡ without test ls
-    → AreIndexed cports ends known old ls → AreCounted cports' ms
-    → (AreNamed ends ls → AreNamed ends' (without test ls))
-    → new ≤ length ms → AreIdle new ms → AreIndexed cports' ends' known new ms
-indexed-left cports cports' ends ends' known old new test ls ms e indexed counted named within
-    quiet = record {
-      counted = counted;
-      rises = λ says. rises-without test ls ms e (indexed.rises says);
-      named = λ says. subst (AreNamed ends') (sym e) (named (indexed.named says));
-      within = within;
-      idle = quiet;
-    }
+    → AreIndexed cports ends known ls → AreCounted cports' ms
+    → (AreNamed ends ls → AreNamed ends' (without test ls)) → AreIndexed cports' ends' known ms
+indexed-left cports cports' ends ends' known test ls ms e indexed counted named = record {
+  counted = counted;
+  rises = λ says. rises-without test ls ms e (indexed.rises says);
+  named = λ says. subst (AreNamed ends') (sym e) (named (indexed.named says));
+}

@@ -55,14 +55,14 @@ begun-pends (i ∷ is) x = begun-pends is x
 
 -- the turn of an insertion is done
 pub inserted-turns : (p : ℕ) (is : List ℕ) (old new : Host) (front all : List Act)
-    → new.interfaces ≡ with_module p is old.interfaces → new.links.live.items ≡ old.links.live.items
+    → new.interfaces ≡ with_module p is old.interfaces → new.links.items ≡ old.links.items
     → new.images ≡ old.images → all ≡ front ++ spelled (begun is)
     → Turns (one_by_one (host_inserted p) is (host_of old)) front new all
 inserted-turns p is old new front all known same given acts =
     subst (λ t. Turns t front new all) (sym (inserted-is p is (host_of old))) (record {
-      host = sym (ap (λ xs. with_parts xs new.links.live.items new.images) known
+      host = sym (ap (λ xs. with_parts xs new.links.items new.images) known
           ∙ ap (λ ls. with_parts (with_module p is old.interfaces) ls new.images) same
-          ∙ ap (with_parts (with_module p is old.interfaces) old.links.live.items) given);
+          ∙ ap (with_parts (with_module p is old.interfaces) old.links.items) given);
       acts = acts;
       pending = begun-pends is new;
     })

@@ -1,5 +1,5 @@
 -- Connections whose numbers rise.
-use Rattle.std.proofs.Common.{◌≡◌, ◌==◌, ◌<◌, ◌≤◌, ◌+◌, ℕ, zero, suc, Bool, true, false, ◌&&◌, cond}
+use Rattle.std.proofs.Common.{◌≡◌, ◌==◌, ◌<◌, ◌≤◌, ◌+◌, ℕ, zero, suc, Bool, true, false, ◌&&◌, cond, not}
 use Rattle.std.proofs.Common.{nat_lt, ltb, ◌-◌, Some, None, List, [], ◌∷◌, ◌++◌, length, get_or}
 use Rattle.std.proofs.Common.{refl, sym, ap, ◌∙◌, arith, subst, length-append}
 use Rattle.std.proofs.Math.ListN.{get_or-append}
@@ -7,7 +7,7 @@ use Rattle.std.proofs.Math.Seq.{get_or-append_seam}
 use Rattle.std.proofs.lemmas.Bool.Decides.{nat_tests}
 use Rattle.std.proofs.lemmas.List.{get_or_default}
 use Rattle.std.proofs.lemmas.List.Kept.{AllPairs-filter}
-use Rattle.std.specs.List.{position_from}
+use Rattle.std.specs.List.{find, position_from}
 use Rattle.std.specs.List.Sorted.{IsNonDecreasingBy, IsPartitionPoint}
 use Rattle.gb_base.specs.declared.interface.Link.{Link}
 use Rattle.gb_host.specs.Indexes.{Rises}
@@ -143,13 +143,10 @@ at-point k ls i d point within is = first-of k ls 0 i d within
     grind (arith, nat_tests)) is ∙ ap Some (omega arith)
 
 -- the one at a place has the number, where numbers rise
-pub rises-at : (k : ℕ) (live ls : List Link) (i : ℕ) (d : Link) → live ≡ ls
-    → i < length live → (get_or live i d).connection ≡ k → Rises ls
+pub rises-at : (k : ℕ) (ls : List Link) (i : ℕ) (d : Link) → i < length ls
+    → (get_or ls i d).connection ≡ k → Rises ls
     → position_from (λ l. l.connection == k) 0 ls ≡ Some i
-rises-at k live ls i d same inside says rises =
-    let within : i < length ls = subst (λ ms. i < length ms) same inside in
-    let is : (get_or ls i d).connection ≡ k =
-    subst (λ ms. (get_or ms i d).connection ≡ k) same says in
+rises-at k ls i d within is rises =
     first-of k ls 0 i d within
     (λ j h. let before = rises j i d h within in omega (arith, before, is)) is
     ∙ ap Some (omega arith)
@@ -157,7 +154,7 @@ rises-at k live ls i d same inside says rises =
 -- none has the number, where the one at the place hasn't
 pub past-point : (k : ℕ) (ls : List Link) (i : ℕ) (e : Link) → Rises ls → IsPoint k ls i
     → i < length ls
-    → ((get_or ls i e).connection == k) ≡ false
+    → ((get_or ls i e).connection ≡ k → ⊥)
     → position_from (λ l. l.connection == k) 0 ls ≡ None
 past-point k ls i e rises point within other = none-of k ls 0 (λ j d h. by j d h (nat_lt j i) refl)
   where
@@ -179,12 +176,9 @@ past-point k ls i e rises point within other = none-of k ls 0 (λ j d h. by j d 
         grind (arith, nat_tests)
 
 -- none has a number below the first
-pub below-first : (k : ℕ) (live ls : List Link) (d : Link) → live ≡ ls
-    → k < (get_or live 0 d).connection
+pub below-first : (k : ℕ) (ls : List Link) (d : Link) → k < (get_or ls 0 d).connection
     → Rises ls → position_from (λ l. l.connection == k) 0 ls ≡ None
-below-first k live ls d same says rises = none-of k ls 0 (λ j e h.
-    let less : k < (get_or ls 0 d).connection =
-    subst (λ ms. k < (get_or ms 0 d).connection) same says in
+below-first k ls d less rises = none-of k ls 0 (λ j e h.
     let most : (get_or ls 0 d).connection ≤ (get_or ls j d).connection = climbs ls rises 0 j d
     (omega arith) h in
     let one : get_or ls j e ≡ get_or ls j d = get_or_default ls j e d h in
@@ -199,12 +193,10 @@ and-both true false h = absurd cc
 and-both false b h = absurd cc
 
 -- the numbers rise to that of one more, where the last is smaller
-pub rises-to : (live ls : List Link) (l d : Link) → live ≡ ls
-    → ltb (get_or live (length live - 1) d).connection l.connection ≡ true
+pub rises-to : (ls : List Link) (l d : Link)
+    → ltb (get_or ls (length ls - 1) d).connection l.connection ≡ true
     → Rises ls → Rises (ls ++ l ∷ [])
-rises-to live ls l d same says rises = rises-last ls l (λ i e h.
-    let test : ltb (get_or ls (length ls - 1) d).connection l.connection ≡ true =
-    subst (λ ms. ltb (get_or ms (length ms - 1) d).connection l.connection ≡ true) same says in
+rises-to ls l d test rises = rises-last ls l (λ i e h.
     let most : (get_or ls (length ls - 1) d).connection < l.connection = grind (arith, nat_tests) in
     let before : i ≤ length ls - 1 = omega (arith, h) in
     let within : length ls - 1 < length ls = omega (arith, h) in
@@ -212,3 +204,13 @@ rises-to live ls l d same says rises = rises-last ls l (λ i e h.
     rises i (length ls - 1) d before within in
     let one : get_or ls i e ≡ get_or ls i d = get_or_default ls i e d h in
     subst (λ (m : Link). m.connection < l.connection) (sym one) (omega (arith, up, most))) rises
+
+-- where none passes a test, all stay
+pub none-leaves : (p : Link → Bool) (ls : List Link) → find p ls ≡ None → without p ls ≡ ls
+none-leaves p [] none = refl
+none-leaves p (l ∷ ls) none = by (p l) none (none-leaves p ls)
+  where
+    by : (b : Bool) → cond b (Some l) (find p ls) ≡ None → (find p ls ≡ None → without p ls ≡ ls)
+        → cond (not b) (l ∷ without p ls) (without p ls) ≡ l ∷ ls
+    by true h later = absurd cc
+    by false h later = ap (λ ms. l ∷ ms) (later h)

@@ -1,14 +1,13 @@
 -- What changes of interfaces and connections.
-use Rattle.std.specs.Prelude.{◌≡◌, ◌<◌, ℕ, ◌-◌, Option, List, [], ◌∷◌}
-use Rattle.std.specs.Vec.{vec_capacity, vec_len}
+use Rattle.std.specs.Prelude.{◌≡◌, ℕ, ◌-◌, true, Option, List, [], ◌∷◌}
 use Rattle.gb_base.specs.declared.interface.Interface.{Interface}
 use Rattle.gb_base.specs.declared.interface.Link.{Link}
 use Rattle.gb_base.specs.declared.steps.SequenceStep.{SequenceStep}
+use Rattle.gb_host.specs.LinkList.{LinkList}
 use Rattle.gb_host.specs.declared.interfaces.Change.{Change}
 use Rattle.gb_host.specs.declared.interfaces.Change.TheVariants as change
 use Rattle.gb_host.specs.declared.links.LinkChange.{LinkChange}
 use Rattle.gb_host.specs.declared.links.LinkChange.TheVariants as link
-use Rattle.gb_host.specs.declared.links.Links.{Links}
 use Rattle.gb_machine.specs.Host.{in_state, intf_before, new_interface}
 use Rattle.gb_machine.specs.HostServing.{with_credits}
 use Rattle.gb_machine.specs.Lists.{in_order}
@@ -48,9 +47,9 @@ link_changed (link.Fewer taken) l = with_fewer taken l
 link_changed (link.Awaits w) l = link_awaits w l
 
 -- there are no connections
-abbrev pub is_empty : Links → Type 0
-is_empty x = x.live.items ≡ []
+abbrev pub is_empty : LinkList → Type 0
+is_empty x = x.items ≡ []
 
 -- a connection more takes no memory
-abbrev pub HasRoom : Links → Type 0
-HasRoom x = vec_len x.live < vec_capacity x.live
+abbrev pub HasRoom : LinkList → Type 0
+HasRoom x = x.room ≡ true

@@ -15,12 +15,15 @@ Rises links = AllPairs (λ l m. l.connection < m.connection) links
 abbrev pub AreIdle : ℕ → List Link → Type 0
 AreIdle place links = (i : ℕ) (d : Link) → i < place → (get_or links i d).awaits ≡ None
 
--- The CPorts of connections are counted, and none before a place waits. Where it is said so, their
--- numbers rise, and those at each far end are known.
-pub record AreIndexed (cports : Cports) (ends : Ends) (known : Bool) (place : ℕ)
+-- None before a place waits, and the place is no further than behind the last.
+pub record IsIdleTo (place : ℕ) (links : List Link) : Type 0 where
+  pub within : place ≤ length links
+  pub idle : AreIdle place links
+
+-- The CPorts of connections are counted. Where it is said so, their numbers rise, and those at each
+-- far end are known.
+pub record AreIndexed (cports : Cports) (ends : Ends) (known : Bool)
     (links : List Link) : Type 0 where
   pub counted : AreCounted cports links
   pub rises : known ≡ true → Rises links
   pub named : known ≡ true → AreNamed ends links
-  pub within : place ≤ length links
-  pub idle : AreIdle place links

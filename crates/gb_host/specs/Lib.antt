@@ -5,6 +5,7 @@ pub mod Counts
 pub mod Images
 pub mod Indexes
 pub mod Known
+pub mod LinkList
 pub mod Named
 pub mod Refusing
 pub mod Serving

@@ -8,7 +8,7 @@ use Rattle.gb_machine.specs.Host as machine
 
 -- the machine's application processor with the same interfaces, connections and images
 abbrev pub host_of : Host → machine.Host
-host_of x = record { interfaces = x.interfaces; links = x.links.live.items; images = x.images }
+host_of x = record { interfaces = x.interfaces; links = x.links.items; images = x.images }
 
 -- The value stands for this application processor: interfaces, connections and images are
 -- the same.

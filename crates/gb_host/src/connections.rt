@@ -1,10 +1,8 @@
 //! The connections to modules, with what is kept to look them up.
 
-ghost use Rattle.std.specs.Prelude.{◌≡◌, ◌==◌, ◌<◌, ◌≤◌, ◌∷◌, [], ◌++◌, None, IfOk, IfSome, List};
-ghost use Rattle.std.specs.Prelude.{OnOk, find, length, set};
+ghost use Rattle.std.specs.Prelude.{◌≡◌, ◌==◌, ◌<◌, ◌∷◌, [], ◌++◌, None, IfOk, IfSome, OnOk};
+ghost use Rattle.std.specs.Prelude.{find, length};
 ghost use Rattle.std.specs.List.{list_any, position_from};
-ghost use Rattle.gb_base.specs.declared.interface.Link.{Link};
-ghost use Rattle.gb_host.specs.Indexes.{AreIdle};
 ghost use Rattle.gb_machine.specs.Host.{in_state, is_link};
 ghost use Rattle.gb_machine.specs.HostServing.{with_credits};
 ghost use Rattle.gb_machine.specs.Lists.{at_first, first_free, without};
@@ -19,28 +17,26 @@ use std::marker::Model;
 
 /// The connections to modules in order of number. A contract sees them alone. The rest is kept so
 /// that a look-up doesn't go over all of them: the CPorts of the application processor that they
-/// have, the numbers of those at each far end, and a place before which none waits. Where numbers
-/// don't rise, or no memory was found, far ends and numbers aren't known, and are looked for
-/// one by one.
+/// have, and the numbers of those at each far end. Where numbers don't rise, or no memory was found,
+/// far ends and numbers aren't known, and are looked for one by one.
 #[derive(Drop)]
 pub struct Connections {
     links: Links,
     cports: Cports,
     ends: Ends,
     known: bool,
-    idle: usize,
 }
 
 impl Model for Connections {
-    ghost use Rattle.gb_host.specs.declared.links.Links.{Links};
+    ghost use Rattle.gb_host.specs.LinkList.{LinkList};
 
-    ghost Value = { Links };
+    ghost Value = { LinkList };
 
     ghost use Rattle.gb_host.specs.Indexes.{AreIndexed};
 
     ghost view = { λ x. x.links };
 
-    ghost invariant = { λ x. AreIndexed x.cports x.ends x.known x.idle x.links.live.items };
+    ghost invariant = { λ x. AreIndexed x.cports x.ends x.known x.links.items };
 }
 
 impl Connections {
@@ -56,13 +52,12 @@ impl Connections {
             cports: Cports::new(alloc)?,
             ends: Ends::new(alloc),
             known: true,
-            idle: 0,
         })
     }
 
     /// The connections in order of number.
     pub fn items(&self) -> &[Link]
-        ensures { result.now ≡ self.now.live.items }
+        ensures { result.now ≡ self.now.items }
     {
         self.links.items()
     }
@@ -70,7 +65,7 @@ impl Connections {
     /// The connection to a CPort of an interface.
     #[inline]
     pub fn at(&self, intf: u8, cport: u16) -> Option<Link>
-        ensures { result ≡ find (is_link intf cport) self.now.live.items }
+        ensures { result ≡ find (is_link intf cport) self.now.items }
     {
         let place = self.place(intf, cport)?;
         Some(self.links.get(place))
@@ -79,7 +74,7 @@ impl Connections {
     /// The connection with a number.
     #[inline]
     pub fn of(&self, connection: u64) -> Option<Link>
-        ensures { result ≡ find (λ l. l.connection == connection) self.now.live.items }
+        ensures { result ≡ find (λ l. l.connection == connection) self.now.items }
     {
         if self.known {
             self.links.of_rising(connection)
@@ -90,7 +85,7 @@ impl Connections {
 
     /// The least CPort of the application processor from 1 to 4,095 that no connection has.
     pub fn free_cport(&self) -> Option<u16>
-        ensures { result ≡ first_free (λ a. list_any (λ l. l.ap == a) self.now.live.items) 4095 1 }
+        ensures { result ≡ first_free (λ a. list_any (λ l. l.ap == a) self.now.items) 4095 1 }
     {
         self.cports.free()
     }
@@ -98,17 +93,17 @@ impl Connections {
     /// The purpose of a request that a connect or close waits for.
     #[inline]
     pub fn waiting(&self, number: u64) -> Option<Purpose>
-        ensures { result ≡ link_waits number self.now.live.items }
+        ensures { result ≡ link_waits number self.now.items }
     {
-        self.links.waiting(self.idle, number)
+        self.links.waiting(number)
     }
 
     /// What the connect or close of a connection waits for.
     #[inline]
     pub fn awaits(&self, intf: u8, cport: u16) -> Option<(u64, SequenceStep)>
         ensures { at_first (is_link intf cport) (link_awaits result)
-            (at_first (is_link intf cport) (link_awaits None) self.now.live.items)
-            ≡ self.now.live.items }
+            (at_first (is_link intf cport) (link_awaits None) self.now.items)
+            ≡ self.now.items }
     {
         match self.at(intf, cport) {
             Some(link) => link.awaits,
@@ -120,8 +115,8 @@ impl Connections {
     #[inline]
     pub fn state(&self, intf: u8, cport: u16, to: ConnState) -> ConnState
         ensures { at_first (is_link intf cport) (in_state result)
-            (at_first (is_link intf cport) (in_state to) self.now.live.items)
-            ≡ self.now.live.items }
+            (at_first (is_link intf cport) (in_state to) self.now.items)
+            ≡ self.now.items }
     {
         match self.at(intf, cport) {
             Some(link) => link.state,
@@ -132,35 +127,33 @@ impl Connections {
     /// A connection more will take no memory.
     pub fn reserve(&mut self) -> Result<(), OutOfMemory>
         ensures room { OnOk result (HasRoom self.new) }
-        ensures same { self.new.live.items ≡ self.old.live.items }
+        ensures same { self.new.items ≡ self.old.items }
     {
         self.links.reserve()
     }
 
     /// The connection to a CPort of an interface is there no more.
     pub fn remove(&mut self, intf: u8, cport: u16)
-        ensures { self.new.live.items ≡ without (is_link intf cport) self.old.live.items }
+        ensures { self.new.items ≡ without (is_link intf cport) self.old.items }
     {
         self.cports.leave_end(self.links.items(), intf, cport);
         self.ends.remove(intf, cport);
-        let gone = self.links.remove(intf, cport);
-        self.idle = self.links.idle_from(self.idle.saturating_sub(gone));
+        self.links.remove(intf, cport);
     }
 
     /// The connections of an interface are there no more.
     pub fn remove_all(&mut self, intf: u8)
-        ensures { self.new.live.items ≡ without (λ l. l.intf == intf) self.old.live.items }
+        ensures { self.new.items ≡ without (λ l. l.intf == intf) self.old.items }
     {
         let live = self.links.items();
         self.cports.leave_all(live, intf);
         self.ends.remove_all(live, intf);
-        let gone = self.links.remove_all(intf);
-        self.idle = self.links.idle_from(self.idle.saturating_sub(gone));
+        self.links.remove_all(intf);
     }
 
     /// A connection goes to the end.
     pub fn add(&mut self, link: Link)
-        ensures { HasRoom self.old → self.new.live.items ≡ self.old.live.items ++ link ∷ [] }
+        ensures { HasRoom self.old → self.new.items ≡ self.old.items ++ link ∷ [] }
     {
         let rises = self.links.rises_to(link);
         if self.links.add(link) {
@@ -172,73 +165,57 @@ impl Connections {
 
     /// A connection has a state from now on.
     pub fn set_state(&mut self, intf: u8, cport: u16, to: ConnState)
-        ensures { self.new.live.items
-            ≡ at_first (is_link intf cport) (in_state to) self.old.live.items }
+        ensures { self.new.items
+            ≡ at_first (is_link intf cport) (in_state to) self.old.items }
     {
         self.change(intf, cport, LinkChange::State(to));
     }
 
     /// A connection has so many credits.
     pub fn set_credits(&mut self, intf: u8, cport: u16, total: u16)
-        ensures { self.new.live.items
-            ≡ at_first (is_link intf cport) (with_credits total) self.old.live.items }
+        ensures { self.new.items
+            ≡ at_first (is_link intf cport) (with_credits total) self.old.items }
     {
         self.change(intf, cport, LinkChange::Credits(total));
     }
 
     /// A connection has so many credits fewer, or none.
     pub fn spend(&mut self, intf: u8, cport: u16, taken: usize)
-        ensures { self.new.live.items
-            ≡ at_first (is_link intf cport) (with_fewer taken) self.old.live.items }
+        ensures { self.new.items
+            ≡ at_first (is_link intf cport) (with_fewer taken) self.old.items }
     {
         self.change(intf, cport, LinkChange::Fewer(taken));
     }
 
     /// The connect or close of a connection waits for this.
     pub fn set_awaits(&mut self, intf: u8, cport: u16, awaits: Option<(u64, SequenceStep)>)
-        ensures { self.new.live.items
-            ≡ at_first (is_link intf cport) (link_awaits awaits) self.old.live.items }
+        ensures { self.new.items
+            ≡ at_first (is_link intf cport) (link_awaits awaits) self.old.items }
     {
         self.change(intf, cport, LinkChange::Awaits(awaits));
     }
 
     /// A connection is changed.
     fn change(&mut self, intf: u8, cport: u16, change: LinkChange)
-        ensures { self.new.live.items
-            ≡ at_first (is_link intf cport) (link_changed change) self.old.live.items }
+        ensures { self.new.items
+            ≡ at_first (is_link intf cport) (link_changed change) self.old.items }
     {
         if let Some(place) = self.place(intf, cport) {
             let link = change.of(self.links.get(place));
             self.links.put(place, link);
-            let from = idle_with(self.idle, place, link);
-            self.idle = self.links.idle_from(from);
         }
     }
 
     /// Where the connection to a CPort of an interface stands.
     #[inline]
     fn place(&self, intf: u8, cport: u16) -> Option<usize>
-        ensures first { result ≡ position_from (is_link intf cport) 0 self.now.live.items }
-        ensures within { IfSome result (λ i. i < length self.now.live.items) }
+        ensures first { result ≡ position_from (is_link intf cport) 0 self.now.items }
+        ensures within { IfSome result (λ i. i < length self.now.items) }
     {
         if !self.known {
             return self.links.place(intf, cport);
         }
         let number = self.ends.number(intf, cport)?;
         self.links.place_rising(number)
-    }
-}
-
-/// A place before which none waits, where none did before the other, once this connection stands at
-/// its place.
-#[inline]
-fn idle_with(idle: usize, place: usize, link: Link) -> usize
-    ensures most { result ≤ idle }
-    ensures idle { (ls : List Link) → idle ≤ length ls → AreIdle idle ls
-        → AreIdle result (set ls place link) }
-{
-    match link.awaits {
-        Some(_) => idle.min(place),
-        None => idle,
     }
 }

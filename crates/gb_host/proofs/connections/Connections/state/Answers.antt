@@ -7,10 +7,10 @@ use Rattle.gb_machine.specs.Host.{in_state, is_link}
 pub returns-in-Some : goal.returns-in-Some
 returns-in-Some c =
     one-back (is_link c.args.intf c.args.cport) (in_state c.args.to) (in_state
-    c.in-Some.link.state) c.args.self.now.live.items c.at.result c.in-Some.link
+    c.in-Some.link.state) c.args.self.now.items c.at.result c.in-Some.link
     (λ l. refl) c.at.ensures c.in-Some.is refl
 
 pub returns-in-None : goal.returns-in-None
 returns-in-None c =
     none-back (is_link c.args.intf c.args.cport) (in_state c.args.to) (in_state c.args.to)
-    c.args.self.now.live.items c.at.result (λ l. refl) c.at.ensures c.in-None.is
+    c.args.self.now.items c.at.result (λ l. refl) c.at.ensures c.in-None.is

@@ -12,7 +12,7 @@ returns-then-taken-eq0-clause-step c = λ h l s there.
 pub returns-in-Some-clause-step : goal.returns-in-Some-clause-step
 returns-in-Some-clause-step c = λ h l s there.
     takes-credits c.args.self.now h c.args.ask.now c.args.connection c.of.result c.in-Some.link l
-    c.credits-taken.result c.spend.new.self.live.items
+    c.credits-taken.result c.spend.new.self.items
     s c.of.ensures c.in-Some.is there c.credits-taken.ensures c.spend.ensures
 
 pub returns-in_default-clause-step : goal.returns-in_default-clause-step

@@ -1,7 +1,7 @@
 -- The purpose is that which the ones not looked at yet give.
 use Rattle.std.proofs.Common.{◌≡◌, drop}
 use Rattle.gb_machine.specs.Waits.{link_waits}
-use Rattle.gb_host.proofs.links.Links.waiting.Given as goal
+use Rattle.gb_host.proofs.links.waiting.Given as goal
 
 abbrev pub invariant-loop-link : goal.invariant-loop-link
 invariant-loop-link l =

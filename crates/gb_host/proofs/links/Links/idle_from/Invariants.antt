@@ -1,6 +1,0 @@
--- None of those that were looked at waits.
-use Rattle.gb_host.specs.Indexes.{AreIdle}
-use Rattle.gb_host.proofs.links.Links.idle_from.Given as goal
-
-abbrev pub invariant-loop-place : goal.invariant-loop-place
-invariant-loop-place l = AreIdle l.from l.self.live.items → AreIdle l.place l.self.live.items

@@ -1,9 +1,0 @@
--- The connection at the place has the number.
-use Rattle.gb_host.proofs.Rising.{rises-at}
-use Rattle.gb_host.proofs.links.Links.place_counted.Goals as goal
-
-pub returns-then-live-place-clause-first : goal.returns-then-live-place-clause-first
-returns-then-live-place-clause-first c = λ rises.
-    rises-at c.args.connection c.as_slice-live.result.now c.args.self.now.live.items
-    c.saturating_sub-place.result _ c.as_slice-live.ensures.value c.if-place-live.true
-    c.if-live-place.true rises
