@@ -1,6 +1,6 @@
 -- Connections whose numbers rise.
 use Rattle.std.proofs.Common.{◌≡◌, ◌==◌, ◌<◌, ◌≤◌, ◌+◌, ℕ, zero, suc, Bool, true, false, ◌&&◌, cond, not}
-use Rattle.std.proofs.Common.{nat_lt, ltb, ◌-◌, Some, None, List, [], ◌∷◌, ◌++◌, length, get_or}
+use Rattle.std.proofs.Common.{nat_lt, ltb, ◌-◌, Option, Some, None, List, [], ◌∷◌, ◌++◌, length, get_or}
 use Rattle.std.proofs.Common.{refl, sym, ap, ◌∙◌, arith, subst, length-append}
 use Rattle.std.proofs.Math.ListN.{get_or-append}
 use Rattle.std.proofs.Math.Seq.{get_or-append_seam}
@@ -10,7 +10,9 @@ use Rattle.std.proofs.lemmas.List.Kept.{AllPairs-filter}
 use Rattle.std.specs.List.{find, position_from}
 use Rattle.std.specs.List.Sorted.{IsNonDecreasingBy, IsPartitionPoint}
 use Rattle.gb_base.specs.declared.interface.Link.{Link}
+use Rattle.gb_host.specs.Changes.{IsTaken}
 use Rattle.gb_host.specs.Indexes.{Rises}
+use Rattle.gb_machine.proofs.Positions.{none-stands, standing}
 use Rattle.gb_machine.specs.Lists.{at_first, without}
 
 -- a connection has no greater number than one that stands at its place or later
@@ -214,3 +216,73 @@ none-leaves p (l ∷ ls) none = by (p l) none (none-leaves p ls)
         → cond (not b) (l ∷ without p ls) (without p ls) ≡ l ∷ ls
     by true h later = absurd cc
     by false h later = ap (λ ms. l ∷ ms) (later h)
+
+-- where all have greater numbers, all stay
+greater-stay : (k : ℕ) (ls : List Link) → ((i : ℕ) (d : Link) → i < length ls
+    → k < (get_or ls i d).connection) → without (λ l. l.connection == k) ls ≡ ls
+greater-stay k [] more = refl
+greater-stay k (l ∷ ls) more =
+    let first : k < l.connection = more zero l (omega arith) in
+    let test : (l.connection == k) ≡ false = grind (arith, nat_tests) in
+    let later = greater-stay k ls (λ i d h. more (suc i) d (omega (arith, h))) in
+    ap (λ b. cond (not b) (l ∷ without (λ (m : Link). m.connection == k) ls) (without (λ (m : Link).
+    m.connection == k) ls)) test ∙ ap (λ ms. l ∷ ms) later
+
+-- where numbers rise, those behind and before one have other numbers
+rises-taken : (k : ℕ) (front behind : List Link) (l : Link) → l.connection ≡ k
+    → Rises (front ++ l ∷ behind)
+    → without (λ m. m.connection == k) (front ++ l ∷ behind) ≡ front ++ behind
+rises-taken k [] behind l is rises =
+    let test : (l.connection == k) ≡ true = grind (arith, nat_tests) in
+    ap (λ b. cond (not b) (l ∷ without (λ (m : Link). m.connection == k) behind) (without (λ (m :
+    Link). m.connection == k) behind)) test
+    ∙ greater-stay k behind (λ i d h.
+    let up : l.connection < (get_or behind i d).connection = rises zero (suc i) d (omega arith)
+    (omega (arith, h)) in omega (arith, up, is))
+rises-taken k (m ∷ front) behind l is rises =
+    let count : length (front ++ l ∷ behind) ≡ length front + length (l ∷ behind) =
+    length-append front (l ∷ behind) in
+    let up = rises zero (suc (length front)) l (omega arith) (omega (arith, count)) in
+    let less : m.connection < l.connection = subst (λ (n : Link). m.connection < n.connection)
+    (get_or-append_seam front l behind l) up in
+    let test : (m.connection == k) ≡ false = grind (arith, nat_tests) in
+    let all = front ++ l ∷ behind in
+    ap (λ b. cond (not b) (m ∷ without (λ (n : Link). n.connection == k) all) (without (λ (n :
+    Link). n.connection == k) all)) test
+    ∙ ap (λ ms. m ∷ ms) (rises-taken k front behind l is (λ i j d low high. rises (suc i) (suc j) d
+    (omega (arith, low)) (omega (arith, high))))
+
+-- the connection that is looked for stands nowhere
+pub found-none : (test : Link → Bool) (live ls : List Link) (o : Option ℕ) (r : Option Link)
+    → live ≡ ls → o ≡ position_from test 0 live → o ≡ None → r ≡ None → r ≡ find test ls
+found-none test live ls o r same first was is =
+    is ∙ sym (none-stands test live (sym first ∙ was)).0 ∙ ap (find test) same
+
+-- the connection that is looked for stands at a place
+pub found-one : (test : Link → Bool) (live ls : List Link) (o : Option ℕ) (i : ℕ) (l : Link)
+    → live ≡ ls → o ≡ position_from test 0 live → o ≡ Some i → l ≡ get_or ls i l
+    → Some l ≡ find test ls
+found-one test live ls o i l same first was is =
+    ap Some (is ∙ ap (λ ms. get_or ms i l) (sym same))
+    ∙ sym ((standing test live i (sym first ∙ was)).found l) ∙ ap (find test) same
+
+-- the one that passes a test passes it
+found-passes : (test : Link → Bool) (ls : List Link) (l : Link) → find test ls ≡ Some l
+    → test l ≡ true
+found-passes test [] l h = absurd cc
+found-passes test (m ∷ ls) l h = by (test m) refl h (found-passes test ls l)
+  where
+    by : (b : Bool) → test m ≡ b → cond b (Some m) (find test ls) ≡ Some l
+        → (find test ls ≡ Some l → test l ≡ true) → test l ≡ true
+    by true e h later = let one : m ≡ l = cc in subst (λ n. test n ≡ true) one e
+    by false e h later = later h
+
+-- where numbers rise and one is taken, those that stay have other numbers
+pub taken-only : (k : ℕ) (old new : List Link) (l : Link) → IsTaken l old new → Rises old
+    → find (λ m. m.connection == k) old ≡ Some l → new ≡ without (λ m. m.connection == k) old
+taken-only k old new l taken rises found =
+    let test : (l.connection == k) ≡ true = found-passes (λ m. m.connection == k) old l found in
+    let is : l.connection ≡ k = grind (arith, nat_tests) in
+    taken.new_is
+    ∙ sym (rises-taken k taken.front taken.behind l is (subst Rises taken.old_is rises))
+    ∙ sym (ap (without (λ m. m.connection == k)) taken.old_is)

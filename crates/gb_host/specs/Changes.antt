@@ -1,5 +1,5 @@
 -- What changes of interfaces and connections.
-use Rattle.std.specs.Prelude.{◌≡◌, ℕ, ◌-◌, true, Option, List, [], ◌∷◌}
+use Rattle.std.specs.Prelude.{◌≡◌, ℕ, ◌-◌, true, Option, Some, None, List, [], ◌∷◌, ◌++◌}
 use Rattle.gb_base.specs.declared.interface.Interface.{Interface}
 use Rattle.gb_base.specs.declared.interface.Link.{Link}
 use Rattle.gb_base.specs.declared.steps.SequenceStep.{SequenceStep}
@@ -45,6 +45,18 @@ link_changed (link.State to) l = in_state to l
 link_changed (link.Credits total) l = with_credits total l
 link_changed (link.Fewer taken) l = with_fewer taken l
 link_changed (link.Awaits w) l = link_awaits w l
+
+-- a connection is taken from where it stands
+pub record IsTaken (l : Link) (old new : List Link) : Type 0 where
+  pub front : List Link
+  pub behind : List Link
+  pub old_is : old ≡ front ++ l ∷ behind
+  pub new_is : new ≡ front ++ behind
+
+-- a connection is taken, or all stay where there is none
+abbrev pub Takes : Option Link → List Link → List Link → Type 0
+Takes None old new = new ≡ old
+Takes (Some l) old new = IsTaken l old new
 
 -- there are no connections
 abbrev pub is_empty : LinkList → Type 0

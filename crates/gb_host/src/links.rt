@@ -1,9 +1,9 @@
 //! The connections to modules.
 
 ghost use Rattle.std.specs.Prelude.{◌≡◌, ◌==◌, ◌<◌, ◌≤◌, ◌∷◌, [], ◌++◌, ◌^◌, true, false};
-ghost use Rattle.std.specs.Prelude.{IfSome, List, OnOk, Some};
+ghost use Rattle.std.specs.Prelude.{IfOk, IfSome, List, OnOk, Some};
 ghost use Rattle.std.specs.Prelude.{drop, find, get_or, length, set};
-ghost use Rattle.std.specs.List.{position_from};
+ghost use Rattle.std.specs.List.{filter, position_from};
 ghost use Rattle.gb_base.specs.declared.interface.Link.{Link};
 ghost use Rattle.gb_host.specs.Indexes.{AreIdle, Rises};
 ghost use Rattle.gb_machine.specs.Host.{is_link};
@@ -11,7 +11,7 @@ ghost use Rattle.gb_machine.specs.Lists.{without};
 ghost use Rattle.gb_machine.specs.Waits.{link_waits};
 
 use crate::waiting::purpose_in;
-use gb_base::{ConnState, Link, OutOfMemory, Purpose, SequenceStep};
+use gb_base::{ConnState, Link, OutOfMemory, Purpose, Sequence, SequenceStep};
 use std::alloc::Global;
 use std::marker::Model;
 
@@ -74,7 +74,7 @@ impl Model for Links {
 }
 
 impl Links {
-    ghost use Rattle.gb_host.specs.Changes.{HasRoom, is_empty};
+    ghost use Rattle.gb_host.specs.Changes.{HasRoom, IsTaken, Takes, is_empty};
 
     /// No connections. It takes no memory yet.
     pub fn new(alloc: Global) -> Links
@@ -185,19 +185,57 @@ impl Links {
         self.idle = idle_from(self.live.as_slice(), self.idle.saturating_sub(gone));
     }
 
+    /// The connections of an interface, in order.
+    pub fn of_interface(&self, alloc: Global, intf: u8) -> Result<Sequence<Link>, OutOfMemory>
+        ensures { IfOk result (λ ls. ls ≡ filter (λ l. l.intf == intf) self.now.items) }
+    {
+        let mut links = Sequence::new(alloc);
+        for link in &self.live {
+            if link.intf == intf {
+                links.push(*link)?;
+            }
+        }
+        Ok(links)
+    }
+
     /// Takes the connection with a number, where the numbers rise. None comes where there is none.
     pub fn take_rising(&mut self, connection: u64) -> Option<Link>
         ensures link { Rises self.old.items
             → result ≡ find (λ l. l.connection == connection) self.old.items }
         ensures taken { Rises self.old.items
             → self.new.items ≡ without (λ l. l.connection == connection) self.old.items }
+        ensures out { Takes result self.old.items self.new.items }
     {
-        let link = of_rising(self.live.as_slice(), connection)?;
-        let before = self.live.len();
-        self.live.retain(|link| link.connection != connection);
-        let gone = before.saturating_sub(self.live.len());
-        self.idle = idle_from(self.live.as_slice(), self.idle.saturating_sub(gone));
-        Some(link)
+        let place = place_rising(self.live.as_slice(), connection)?;
+        Some(self.take(place))
+    }
+
+    /// Takes the first connection to a CPort of an interface. None comes where there is none.
+    pub fn take_at(&mut self, intf: u8, cport: u16) -> Option<Link>
+        ensures link { result ≡ find (is_link intf cport) self.old.items }
+        ensures out { Takes result self.old.items self.new.items }
+    {
+        let place = place(self.live.as_slice(), intf, cport)?;
+        Some(self.take(place))
+    }
+
+    /// Takes the first connection of an interface. None comes where there is none.
+    pub fn take_of(&mut self, intf: u8) -> Option<Link>
+        ensures link { result ≡ find (λ l. l.intf == intf) self.old.items }
+        ensures out { Takes result self.old.items self.new.items }
+    {
+        let place = place_of(self.live.as_slice(), intf)?;
+        Some(self.take(place))
+    }
+
+    /// Takes the connection at a place.
+    fn take(&mut self, place: usize) -> Link
+        requires { place < length self.old.items }
+        ensures link { result ≡ get_or self.old.items place result }
+        ensures taken { IsTaken result self.old.items self.new.items }
+    {
+        self.idle = 0;
+        self.live.remove(place)
     }
 
     /// A connection goes to the end, or nothing changes.
@@ -305,6 +343,19 @@ fn place(live: &[Link], intf: u8, cport: u16) -> Option<usize>
 {
     for (i, link) in live.iter().enumerate() {
         if link.intf == intf && link.cport == cport {
+            return Some(i);
+        }
+    }
+    None
+}
+
+/// Where the first connection of an interface stands.
+fn place_of(live: &[Link], intf: u8) -> Option<usize>
+    ensures first { result ≡ position_from (λ l. l.intf == intf) 0 live.now }
+    ensures within { IfSome result (λ i. i < length live.now) }
+{
+    for (i, link) in live.iter().enumerate() {
+        if link.intf == intf {
             return Some(i);
         }
     }

@@ -1,37 +1,33 @@
--- The connections that stay have other numbers.
-use Rattle.std.proofs.Common.{◌≡◌, ◌==◌, sym, ap, ◌∙◌, subst, not, rules}
-use Rattle.std.proofs.lemmas.Fn.{filter_same}
-use Rattle.gb_host.proofs.Idle.{idle-left}
-use Rattle.std.specs.List.{find}
+-- The connection is the one at its place, if there is one.
+use Rattle.std.proofs.Common.{◌==◌, ap, sym, ◌∙◌, subst}
 use Rattle.gb_base.specs.declared.interface.Link.{Link}
-use Rattle.gb_host.proofs.Rising.{none-leaves}
+use Rattle.gb_host.proofs.Rising.{found-none, found-one, none-leaves, taken-only}
 use Rattle.gb_host.specs.Indexes.{Rises}
 use Rattle.gb_host.specs.LinkList.{LinkList}
 use Rattle.gb_host.proofs.links.Links.take_rising.Goals as goal
-use Rattle.gb_machine.specs.Lists.{without}
+
+pub returns-in_err-place-clause-link : goal.returns-in_err-place-clause-link
+returns-in_err-place-clause-link c = λ rises.
+    let same = c.as_slice.ensures.value ∙ ap (λ (x : LinkList). x.items) c.self.view_is in
+    found-none (λ (l : Link). l.connection == c.args.connection) c.as_slice.result.now
+    c.args.self.now.items c.place_rising.result c.from_residual.result same
+    (c.place_rising.ensures.first (subst Rises (sym same) rises)) c.in_err-place.was
+    c.from_residual.ensures
+
+pub returns-in_err-place-clause-taken : goal.returns-in_err-place-clause-taken
+returns-in_err-place-clause-taken c = λ rises.
+    sym (none-leaves (λ (l : Link). l.connection == c.args.connection) c.args.self.now.items
+    (sym (returns-in_err-place-clause-link c rises) ∙ c.from_residual.ensures))
+
+pub returns-clause-link : goal.returns-clause-link
+returns-clause-link c = λ rises.
+    let same = c.as_slice.ensures.value ∙ ap (λ (x : LinkList). x.items) c.self.view_is in
+    found-one (λ (l : Link). l.connection == c.args.connection) c.as_slice.result.now
+    c.args.self.now.items c.place_rising.result c.in_ok-place.place c.take.result same
+    (c.place_rising.ensures.first (subst Rises (sym same) rises)) c.in_ok-place.was
+    c.take.ensures.link
 
 pub returns-clause-taken : goal.returns-clause-taken
 returns-clause-taken c = λ rises.
-    filter_same _ (λ y. not (y.connection == c.args.connection)) _ (λ x b f' k. search rules) _ _
-    c.retain.ensures.filtered
-    ∙ ap (λ (x : LinkList). without (λ l. l.connection == c.args.connection) x.items) c.self.view_is
-
-pub invariant_of-self : goal.invariant_of-self
-invariant_of-self c =
-    let ls = c.self.inside.live.items in
-    let ms = c.retain.new.self.items in
-    let stay : ms ≡ without (λ l. l.connection == c.args.connection) ls = filter_same _ (λ y. not (y.connection == c.args.connection)) _ (λ x b f' k. search rules) _ _
-    c.retain.ensures.filtered in
-    idle-left (λ l. l.connection == c.args.connection) ls ms c.as_slice-2.result.now c.self.inside.idle c.saturating_sub-gone.result
-    c.saturating_sub.result c.idle_from-self-inside.result stay c.as_slice-2.ensures.value
-    (search rules) c.saturating_sub.ensures c.self.invariant c.idle_from-self-inside.ensures.within
-    c.idle_from-self-inside.ensures.idle
-
-pub returns-in_err-link-clause-taken : goal.returns-in_err-link-clause-taken
-returns-in_err-link-clause-taken c = λ rises.
-    let k = c.args.connection in
-    let same = ap (λ (x : LinkList). x.items) c.self.view_is in
-    sym (none-leaves (λ (l : Link). l.connection == k) c.args.self.now.items
-    (ap (find (λ (l : Link). l.connection == k)) (sym same ∙ sym c.as_slice.ensures.value)
-    ∙ sym (c.of_rising.ensures (subst Rises (sym same ∙ sym c.as_slice.ensures.value) rises))
-    ∙ c.in_err-link.was))
+    taken-only c.args.connection c.args.self.now.items c.take.new.self.items c.take.result
+    c.take.ensures.taken rises (sym (returns-clause-link c rises))
