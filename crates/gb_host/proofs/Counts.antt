@@ -2,19 +2,18 @@
 use Rattle.std.proofs.Common.{◌≡◌, ◌≢◌, ◌==◌, ◌<◌, ◌≤◌, ◌+◌, ◌-◌, ◌||◌, ◌⊎◌, inl, inr, ℕ}
 use Rattle.std.proofs.Common.{suc, Bool, true, false}
 use Rattle.std.proofs.Common.{cond, not, List, [], ◌∷◌, ◌++◌, Some, None, get_or, refl, sym, ap}
-use Rattle.std.proofs.Common.{◌∙◌, ◌^◌, arith, drop, length, min, nat_lt, replicate, set, subst}
-use Rattle.std.proofs.Common.{take}
+use Rattle.std.proofs.Common.{◌∙◌, ◌^◌, arith, length, min, nat_lt, replicate, set, subst}
 use Rattle.std.proofs.lemmas.Bool.Decides.{nat_tests}
-use Rattle.std.proofs.lemmas.List.{append_assoc, append-nil, drop_all, drop_more, get_or_default}
+use Rattle.std.proofs.lemmas.List.{append-nil, get_or_default}
 use Rattle.std.proofs.lemmas.List.{get_or-replicate, get_or-set_other, get_or-set_same, length-set}
-use Rattle.std.proofs.lemmas.List.{length-replicate, take_all, take_more}
+use Rattle.std.proofs.lemmas.List.{length-replicate}
 use Rattle.std.specs.List.{list_any}
 use Rattle.gb_base.specs.declared.interface.Link.{Link}
 use Rattle.gb_formats.proofs.FirstFree.{free-here, free-none}
 use Rattle.gb_host.proofs.Free.{free-past}
 use Rattle.gb_host.specs.Counts.{AreCounted, IsLeast, count_at}
 use Rattle.gb_host.specs.declared.cports.Cports.{Cports}
-use Rattle.gb_machine.specs.Lists.{at_first, first_free, without}
+use Rattle.gb_machine.specs.Lists.{at_first, first_free}
 
 -- ---- counts
 
@@ -353,69 +352,6 @@ counted-leaves x y front behind l i v count at within read less is least counted
     (is ∙ ap (λ j. set x.counts.items j count) at)
     (subst (λ j. IsLeast (set x.counts.items j count) y.least) at (least counted.least here))
     counted
-
--- ---- connections that leave one after another
-
--- the first ones without those that leave, and the rest
-abbrev pub left_of : (Link → Bool) → List Link → ℕ → List Link
-left_of p live n = without p (take n live) ++ drop n live
-
-without-end : (p : Link → Bool) (ls : List Link) (l : Link)
-    → without p (ls ++ l ∷ []) ≡ without p ls ++ without p (l ∷ [])
-without-end p [] l = refl
-without-end p (m ∷ ls) l = by (p m) (without-end p ls l)
-  where
-    by : (b : Bool) → without p (ls ++ l ∷ []) ≡ without p ls ++ without p (l ∷ [])
-        → cond (not b) (m ∷ without p (ls ++ l ∷ [])) (without p (ls ++ l ∷ []))
-        ≡ cond (not b) (m ∷ without p ls) (without p ls) ++ without p (l ∷ [])
-    by true later = later
-    by false later = ap (λ ks. m ∷ ks) later
-
-left-next : (p : Link → Bool) (live : List Link) (n : ℕ) (d : Link) → n < length live
-    → without p (take (n + 1) live)
-    ≡ without p (take n live) ++ without p (get_or live n d ∷ [])
-left-next p live n d within =
-    ap (without p) (take_more live n d within) ∙ without-end p (take n live) (get_or live n d)
-
-left-now : (p : Link → Bool) (live : List Link) (n : ℕ) (d : Link) → n < length live
-    → left_of p live n ≡ without p (take n live) ++ get_or live n d ∷ drop (n + 1) live
-left-now p live n d within =
-    ap (λ ks. without p (take n live) ++ ks) (drop_more live n d within)
-
--- the next one leaves or stays
-pub left-step : (x y : Cports) (p : Link → Bool) (live : List Link) (n : ℕ) (d : Link)
-    → n < length live
-    → (p (get_or live n d) ≡ true → (front behind : List Link)
-    → AreCounted x (front ++ get_or live n d ∷ behind) → AreCounted y (front ++ behind))
-    → (p (get_or live n d) ≡ false → y ≡ x)
-    → AreCounted x (left_of p live n) → AreCounted y (left_of p live (n + 1))
-left-step x y p live n d within leaves stays counted =
-    by (p (get_or live n d)) refl
-  where
-    by : (b : Bool) → p (get_or live n d) ≡ b → AreCounted y (left_of p live (n + 1))
-    by true e =
-        let behind : left_of p live (n + 1) ≡ without p (take n live) ++ drop (n + 1) live =
-        ap (λ ks. ks ++ drop (n + 1) live) (left-next p live n d within
-        ∙ ap (λ b. without p (take n live) ++ cond (not b) (get_or live n d ∷ []) []) e
-        ∙ append-nil (without p (take n live))) in
-        subst (AreCounted y) (sym behind)
-        (leaves e (without p (take n live)) (drop (n + 1) live)
-        (subst (AreCounted x) (left-now p live n d within) counted))
-    by false e =
-        let same : left_of p live (n + 1)
-        ≡ without p (take n live) ++ get_or live n d ∷ drop (n + 1) live =
-        ap (λ ks. ks ++ drop (n + 1) live) (left-next p live n d within
-        ∙ ap (λ b. without p (take n live) ++ cond (not b) (get_or live n d ∷ []) []) e)
-        ∙ append_assoc (without p (take n live)) (get_or live n d ∷ []) (drop (n + 1) live) in
-        subst (λ z. AreCounted z (left_of p live (n + 1))) (sym (stays e))
-        (subst (AreCounted x) (left-now p live n d within ∙ sym same) counted)
-
--- all were looked at
-pub left-all : (x : Cports) (p : Link → Bool) (live : List Link) (n : ℕ) → length live ≤ n
-    → AreCounted x (left_of p live n) → AreCounted x (without p live)
-left-all x p live n over counted =
-    subst (AreCounted x) (ap (λ ks. without p ks ++ drop n live) (take_all n live over)
-    ∙ ap (λ ks. without p live ++ ks) (drop_all n live over) ∙ append-nil (without p live)) counted
 
 -- ---- the least
 

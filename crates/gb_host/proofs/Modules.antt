@@ -11,6 +11,7 @@ use Rattle.gb_base.specs.declared.interface.Interface.{Interface}
 use Rattle.gb_base.specs.declared.interface.Link.{Link}
 use Rattle.gb_formats.specs.Images.{Images}
 use Rattle.gb_host.proofs.Fronts.{spelled-after}
+use Rattle.gb_host.proofs.Numbers.{filter-same}
 use Rattle.gb_host.specs.Changes.{with_module}
 use Rattle.gb_host.specs.Stands.{host_of}
 use Rattle.gb_host.specs.Turning.{Pends, Turns, begins, begun, spelled}
@@ -128,31 +129,6 @@ one-gone is n within h xs ls ims e f g =
     ∙ ap (λ ms. after (with_parts others ms ims)) f
     ∙ ap (λ js. after (with_parts others (without (λ l. l.intf == i) h.links) js)) g
     ∙ ap (λ js. (one_by_one host_removed js h).host) (sym split)
-
--- what passes the one test passes the other, or doesn't
-filter-same : {A : Type 0} (p q : A → Bool) (b : Bool) → ((x : A) → q x ≡ true → p x ≡ b)
-    → (xs : List A) → filter q (filter p xs) ≡ cond b (filter q xs) []
-filter-same p q true same [] = refl
-filter-same p q false same [] = refl
-filter-same {A} p q b same (x ∷ xs) =
-    by (p x) (q x) b refl refl (same x) (filter-same p q b same xs)
-  where
-    by : (r s t : Bool) → p x ≡ r → q x ≡ s → (q x ≡ true → p x ≡ t)
-        → filter q (filter p xs) ≡ cond t (filter q xs) []
-        → filter q (cond r (x ∷ filter p xs) (filter p xs))
-        ≡ cond t (cond s (x ∷ filter q xs) (filter q xs)) []
-    by true true true e f h later =
-        ap (λ c. cond c (x ∷ filter q (filter p xs)) (filter q (filter p xs))) f
-        ∙ ap (λ ys. x ∷ ys) later
-    by true true false e f h later = absurd (let no = h f in cc)
-    by true false true e f h later =
-        ap (λ c. cond c (x ∷ filter q (filter p xs)) (filter q (filter p xs))) f ∙ later
-    by true false false e f h later =
-        ap (λ c. cond c (x ∷ filter q (filter p xs)) (filter q (filter p xs))) f ∙ later
-    by false true true e f h later = absurd (let no = h f in cc)
-    by false true false e f h later = later
-    by false false true e f h later = later
-    by false false false e f h later = later
 
 -- the connections of an interface, without those of another
 others : (i j : ℕ) (ls : List Link)

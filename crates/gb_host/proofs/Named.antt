@@ -1,15 +1,13 @@
 -- Connections by their far ends.
-use Rattle.std.proofs.Common.{◌≡◌, ◌==◌, ◌+◌, ◌<◌, ℕ, zero, suc, Bool, true, false, ◌&&◌, cond, not}
-use Rattle.std.proofs.Common.{nat_eq, Option, Some, None, List, [], ◌∷◌, ◌++◌, length, get_or, refl}
+use Rattle.std.proofs.Common.{◌≡◌, ◌==◌, ◌+◌, ◌<◌, ℕ, zero, suc, Bool, true, false, ◌&&◌, cond}
+use Rattle.std.proofs.Common.{nat_eq, Option, Some, None, List, [], ◌∷◌, length, get_or, refl}
 use Rattle.std.proofs.Common.{◌*◌, sym, ap, ◌∙◌, arith}
 use Rattle.std.proofs.lemmas.Bool.Decides.{nat_tests}
-use Rattle.std.proofs.lemmas.List.Folds.{find-append}
 use Rattle.std.specs.List.{find, position_from}
-use Rattle.std.specs.Option.{is_some, option_map, option_or}
+use Rattle.std.specs.Option.{option_map}
 use Rattle.gb_base.specs.declared.interface.Link.{Link}
 use Rattle.gb_host.specs.Indexes.{Rises}
 use Rattle.gb_host.specs.Named.{end_number}
-use Rattle.gb_machine.specs.Lists.{at_first, without}
 
 -- a number that equals another
 pub equals : (a b : ℕ) → (a == b) ≡ true → a ≡ b
@@ -54,85 +52,6 @@ same-end a b i c low least =
         sym e ∙ alike (end_number a b) (end_number i c) is
     by false true false e f g = refl
     by false false v e f g = refl
-
--- ---- the first at a far end
-
--- of connections without some, where those that are looked for all leave or all stay
-pub find-without : (p q : Link → Bool) (b : Bool) → ((l : Link) → q l ≡ true → p l ≡ b)
-    → (ls : List Link) → find q (without p ls) ≡ cond b None (find q ls)
-find-without p q b same [] = by b
-  where
-    by : (b : Bool) → find q [] ≡ cond b None (find q [])
-    by true = refl
-    by false = refl
-find-without p q b same (l ∷ ls) =
-    by (p l) (q l) refl refl b (same l) (find-without p q b same ls)
-  where
-    by : (t u : Bool) → p l ≡ t → q l ≡ u → (b : Bool) → (q l ≡ true → p l ≡ b)
-        → find q (without p ls) ≡ cond b None (find q ls)
-        → find q (cond (not t) (l ∷ without p ls) (without p ls))
-        ≡ cond b None (cond u (Some l) (find q ls))
-    by true true e k true h later = later
-    by true true e k false h later = let both : true ≡ false = sym e ∙ h k in absurd cc
-    by true false e k b h later = later
-    by false true e k true h later = let both : false ≡ true = sym e ∙ h k in absurd cc
-    by false true e k false h later = ap (λ t. cond t (Some l) (find q (without p ls))) k
-    by false false e k b h later = ap (λ t. cond t (Some l) (find q (without p ls))) k ∙ later
-
--- of connections of which one is changed that stays at its far end
-pub find-kept : (test q : Link → Bool) (f : Link → Link) → ((l : Link) → q (f l) ≡ q l)
-    → ((l : Link) → (f l).connection ≡ l.connection) → (ls : List Link)
-    → number_of (find q (at_first test f ls)) ≡ number_of (find q ls)
-find-kept test q f same number [] = refl
-find-kept test q f same number (l ∷ ls) =
-    by (test l) (q l) refl (find-kept test q f same number ls)
-  where
-    by : (t u : Bool) → q l ≡ u → number_of (find q (at_first test f ls)) ≡ number_of (find q ls)
-        → number_of (find q (cond t (f l ∷ ls) (l ∷ at_first test f ls)))
-        ≡ number_of (cond u (Some l) (find q ls))
-    by true true e later =
-        ap (λ t. number_of (cond t (Some (f l)) (find q ls))) (same l ∙ e) ∙ ap Some (number l)
-    by true false e later =
-        ap (λ t. number_of (cond t (Some (f l)) (find q ls))) (same l ∙ e)
-    by false true e later =
-        ap (λ t. number_of (cond t (Some l) (find q (at_first test f ls)))) e
-    by false false e later =
-        ap (λ t. number_of (cond t (Some l) (find q (at_first test f ls)))) e ∙ later
-
--- of connections with one more at the end, where there was one
-pub find-there : (q : Link → Bool) (ls : List Link) (l : Link)
-    → is_some (number_of (find q ls)) ≡ true
-    → number_of (find q (ls ++ l ∷ [])) ≡ number_of (find q ls)
-find-there q ls l e = ap number_of (find-append q ls (l ∷ [])) ∙ by (find q ls) e
-  where
-    by : (o : Option Link) → is_some (number_of o) ≡ true
-        → number_of (option_or o (find q (l ∷ []))) ≡ number_of o
-    by None e = absurd cc
-    by (Some m) e = refl
-
--- or where it isn't at the far end
-pub find-other : (q : Link → Bool) (ls : List Link) (l : Link) → q l ≡ false
-    → number_of (find q (ls ++ l ∷ [])) ≡ number_of (find q ls)
-find-other q ls l e =
-    ap number_of (find-append q ls (l ∷ []))
-    ∙ ap (λ t. number_of (option_or (find q ls) (cond t (Some l) None))) e ∙ by (find q ls)
-  where
-    by : (o : Option Link) → number_of (option_or o None) ≡ number_of o
-    by None = refl
-    by (Some m) = refl
-
--- or where there was none
-pub find-new : (q : Link → Bool) (ls : List Link) (l : Link)
-    → is_some (number_of (find q ls)) ≡ false → q l ≡ true
-    → number_of (find q (ls ++ l ∷ [])) ≡ Some l.connection
-find-new q ls l none e =
-    ap number_of (find-append q ls (l ∷ []))
-    ∙ ap (λ t. number_of (option_or (find q ls) (cond t (Some l) None))) e ∙ by (find q ls) none
-  where
-    by : (o : Option Link) → is_some (number_of o) ≡ false
-        → number_of (option_or o (Some l)) ≡ Some l.connection
-    by None e = refl
-    by (Some m) e = absurd cc
 
 -- ---- the place of the first at a far end
 

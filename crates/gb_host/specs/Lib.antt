@@ -7,6 +7,7 @@ pub mod Indexes
 pub mod Known
 pub mod LinkList
 pub mod Named
+pub mod Numbers
 pub mod Refusing
 pub mod Serving
 pub mod Stands

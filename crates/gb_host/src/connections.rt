@@ -1,8 +1,13 @@
 //! The connections to modules, with what is kept to look them up.
 
 ghost use Rattle.std.specs.Prelude.{◌≡◌, ◌==◌, ◌<◌, ◌∷◌, [], ◌++◌, None, IfOk, IfSome, OnOk};
-ghost use Rattle.std.specs.Prelude.{find, length};
+ghost use Rattle.std.specs.Prelude.{Bool, find, length};
 ghost use Rattle.std.specs.List.{list_any, position_from};
+ghost use Rattle.gb_base.specs.declared.interface.Link.{Link};
+ghost use Rattle.gb_host.specs.Counts.{AreCounted};
+ghost use Rattle.gb_host.specs.Indexes.{Rises};
+ghost use Rattle.gb_host.specs.Named.{AreNamed};
+ghost use Rattle.gb_host.specs.Numbers.{numbers_where};
 ghost use Rattle.gb_machine.specs.Host.{in_state, is_link};
 ghost use Rattle.gb_machine.specs.HostServing.{with_credits};
 ghost use Rattle.gb_machine.specs.Lists.{at_first, first_free, without};
@@ -12,18 +17,21 @@ use crate::cports::Cports;
 use crate::ends::Ends;
 use crate::links::{LinkChange, Links};
 use gb_base::{ConnState, Link, OutOfMemory, Purpose, SequenceStep};
+use gb_groups::Groups;
 use std::alloc::Global;
 use std::marker::Model;
 
 /// The connections to modules in order of number. A contract sees them alone. The rest is kept so
-/// that a look-up doesn't go over all of them: the CPorts of the application processor that they
-/// have, and the numbers of those at each far end. Where numbers don't rise, or no memory was found,
-/// far ends and numbers aren't known, and are looked for one by one.
+/// that a look-up or a removal doesn't go over all of them: the CPorts of the application processor
+/// that they have, and the numbers of those at each far end and of each interface. Where numbers
+/// don't rise, two have one far end, or no memory was found, far ends and numbers aren't known, and
+/// are looked for one by one.
 #[derive(Drop)]
 pub struct Connections {
     links: Links,
     cports: Cports,
     ends: Ends,
+    numbers: Groups,
     known: bool,
 }
 
@@ -36,7 +44,7 @@ impl Model for Connections {
 
     ghost view = { λ x. x.links };
 
-    ghost invariant = { λ x. AreIndexed x.cports x.ends x.known x.links.items };
+    ghost invariant = { λ x. AreIndexed x.cports x.ends x.numbers x.known x.links.items };
 }
 
 impl Connections {
@@ -51,6 +59,7 @@ impl Connections {
             links: Links::new(alloc),
             cports: Cports::new(alloc)?,
             ends: Ends::new(alloc),
+            numbers: Groups::new(alloc)?,
             known: true,
         })
     }
@@ -80,6 +89,19 @@ impl Connections {
             self.links.of_rising(connection)
         } else {
             self.links.of(connection)
+        }
+    }
+
+    /// The numbers of the connections of an interface in order, where they are known.
+    pub fn numbers(&self, intf: u8) -> Option<&[u64]>
+        ensures numbers { IfSome result (λ ns.
+            ns.now ≡ numbers_where (λ l. l.intf == intf) self.now.items) }
+        ensures rises { IfSome result (λ ns. Rises self.now.items) }
+    {
+        if self.known {
+            Some(self.numbers.of(intf))
+        } else {
+            None
         }
     }
 
@@ -136,19 +158,29 @@ impl Connections {
     pub fn remove(&mut self, intf: u8, cport: u16)
         ensures { self.new.items ≡ without (is_link intf cport) self.old.items }
     {
-        self.cports.leave_end(self.links.items(), intf, cport);
-        self.ends.remove(intf, cport);
-        self.links.remove(intf, cport);
+        if !self.known {
+            self.links.remove(intf, cport);
+            self.cports.recount(self.links.items());
+            return;
+        }
+        if let Some(number) = self.ends.number(intf, cport) {
+            leave(&mut self.links, &mut self.cports, &mut self.ends, number);
+            self.numbers.remove(intf, number);
+        }
     }
 
     /// The connections of an interface are there no more.
     pub fn remove_all(&mut self, intf: u8)
         ensures { self.new.items ≡ without (λ l. l.intf == intf) self.old.items }
     {
-        let live = self.links.items();
-        self.cports.leave_all(live, intf);
-        self.ends.remove_all(live, intf);
-        self.links.remove_all(intf);
+        if !self.known {
+            self.links.remove_all(intf);
+            self.cports.recount(self.links.items());
+            return;
+        }
+        let numbers = self.numbers.of(intf);
+        leave_all(&mut self.links, &mut self.cports, &mut self.ends, numbers);
+        self.numbers.clear(intf);
     }
 
     /// A connection goes to the end.
@@ -159,7 +191,8 @@ impl Connections {
         if self.links.add(link) {
             self.cports.take(link);
             let named = self.ends.add(link);
-            self.known &= rises & named;
+            let there = self.numbers.add(link.intf, link.connection).is_ok();
+            self.known &= rises & named & there;
         }
     }
 
@@ -217,5 +250,36 @@ impl Connections {
         }
         let number = self.ends.number(intf, cport)?;
         self.links.place_rising(number)
+    }
+}
+
+/// The connection with a number is there no more, where numbers rise.
+fn leave(links: &mut Links, cports: &mut Cports, ends: &mut Ends, number: u64)
+    ensures left { Rises links.old.items
+        → links.new.items ≡ without (λ l. l.connection == number) links.old.items }
+    ensures counted { Rises links.old.items → AreCounted cports.old links.old.items
+        → AreCounted cports.new links.new.items }
+    ensures named { Rises links.old.items → AreNamed ends.old links.old.items
+        → AreNamed ends.new links.new.items }
+{
+    if let Some(link) = links.take_rising(number) {
+        cports.leave(link);
+        ends.remove(link.intf, link.cport);
+    }
+}
+
+/// The connections with these numbers are there no more, where numbers rise and these are the
+/// numbers of all that pass a test.
+fn leave_all(links: &mut Links, cports: &mut Cports, ends: &mut Ends, numbers: &[u64])
+    ensures left { (test : Link → Bool) → Rises links.old.items
+        → numbers.now ≡ numbers_where test links.old.items
+        → links.new.items ≡ without test links.old.items }
+    ensures counted { Rises links.old.items → AreCounted cports.old links.old.items
+        → AreCounted cports.new links.new.items }
+    ensures named { Rises links.old.items → AreNamed ends.old links.old.items
+        → AreNamed ends.new links.new.items }
+{
+    for number in numbers {
+        leave(links, cports, ends, *number);
     }
 }

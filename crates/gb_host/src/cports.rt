@@ -61,41 +61,19 @@ impl Cports {
         }
     }
 
-    /// The connections of an interface have their CPorts no more.
-    pub fn leave_all(&mut self, live: &[Link], intf: u8)
-        ensures { AreCounted self.old live.now
-            → AreCounted self.new (without (λ l. l.intf == intf) live.now) }
+    /// These connections alone have their CPorts.
+    pub fn recount(&mut self, live: &[Link])
+        ensures { (ls : List Link) → AreCounted self.old ls → AreCounted self.new live.now }
     {
+        self.counts.fill(0);
+        self.least = LEAST_CPORT;
         for link in live {
-            self.leave_where(link.intf == intf, *link);
-        }
-    }
-
-    /// The connection to a CPort of an interface has its own no more.
-    pub fn leave_end(&mut self, live: &[Link], intf: u8, cport: u16)
-        ensures { AreCounted self.old live.now
-            → AreCounted self.new (without (is_link intf cport) live.now) }
-    {
-        for link in live {
-            self.leave_where((link.intf == intf) & (link.cport == cport), *link);
-        }
-    }
-
-    /// A connection has its CPort no more, where it is gone.
-    #[inline]
-    fn leave_where(&mut self, gone: bool, link: Link)
-        ensures gone { gone ≡ true → (front behind : List Link)
-            → AreCounted self.old (front ++ link ∷ behind)
-            → AreCounted self.new (front ++ behind) }
-        ensures stays { gone ≡ false → self.new ≡ self.old }
-    {
-        if gone {
-            self.leave(link);
+            self.take(*link);
         }
     }
 
     /// A connection fewer has its CPort.
-    fn leave(&mut self, link: Link)
+    pub fn leave(&mut self, link: Link)
         ensures { (front behind : List Link) → AreCounted self.old (front ++ link ∷ behind)
             → AreCounted self.new (front ++ behind) }
     {

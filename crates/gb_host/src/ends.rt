@@ -13,7 +13,8 @@ use std::collections::HashMap;
 /// How many numbers a CPort can have.
 const CPORTS: u32 = 65_536;
 
-/// The number of the first connection at each far end: an interface and its CPort, as one number.
+/// The number of the connection at each far end: an interface and its CPort, as one number. There is
+/// one at most.
 #[derive(Drop)]
 pub struct Ends {
     numbers: HashMap<u32, u64>,
@@ -31,7 +32,7 @@ impl Ends {
         }
     }
 
-    /// The number of the first connection to a CPort of an interface.
+    /// The number of the connection to a CPort of an interface.
     #[inline]
     pub fn number(&self, intf: u8, cport: u16) -> Option<u64>
         ensures { (ls : List Link) → AreNamed self.now ls
@@ -40,14 +41,14 @@ impl Ends {
         self.numbers.get(&far_end(intf, cport)).copied()
     }
 
-    /// A connection more is at its far end, where memory is found.
+    /// A connection more is at its far end, where none is there yet and memory is found.
     pub fn add(&mut self, link: Link) -> bool
         ensures { (ls : List Link) → AreNamed self.old ls → result ≡ true
             → AreNamed self.new (ls ++ link ∷ []) }
     {
         let end = far_end(link.intf, link.cport);
         if self.numbers.contains_key(&end) {
-            return true;
+            return false;
         }
         self.numbers.insert(end, link.connection).is_ok()
     }
@@ -58,18 +59,6 @@ impl Ends {
             → AreNamed self.new (without (is_link intf cport) ls) }
     {
         self.numbers.remove(&far_end(intf, cport));
-    }
-
-    /// No connection is at an interface any more. The far end of each that is there is removed.
-    pub fn remove_all(&mut self, live: &[Link], intf: u8)
-        ensures { AreNamed self.old live.now
-            → AreNamed self.new (without (λ l. l.intf == intf) live.now) }
-    {
-        for link in live {
-            if link.intf == intf {
-                self.numbers.remove(&far_end(intf, link.cport));
-            }
-        }
     }
 }
 

@@ -1,12 +1,13 @@
 //! The removal of a module.
 
-ghost use Rattle.std.specs.Prelude.{◌≡◌, ◌==◌, ◌++◌, ◌∷◌, [], OnOk};
+ghost use Rattle.std.specs.Prelude.{◌≡◌, ◌==◌, ◌++◌, ◌∷◌, [], OnOk, option_to_list};
 ghost use Rattle.std.specs.List.{filter, list_any};
 ghost use Rattle.gb_host.specs.Turning.{spelled};
-ghost use Rattle.gb_machine.specs.Host.{all_forgotten, interfaces_of};
+ghost use Rattle.gb_machine.specs.Host.{all_forgotten, interfaces_of, link_of};
 ghost use Rattle.gb_machine.specs.HostTurns.{host_removed, links_left, links_of, one_by_one};
 
 use crate::connecting::leave;
+use crate::connections::Connections;
 use crate::failing::tell_interface;
 use crate::{Act, Acts, Host};
 use gb_base::{IntfStage, Link, OutOfMemory};
@@ -64,8 +65,35 @@ impl Host {
         Ok(())
     }
 
-    /// The connections of an interface are closed and given up, one after another.
+    /// The connections of an interface are closed and given up, one after another: those that have
+    /// its numbers, where these are known.
     fn leave_all(&self, acts: &mut Acts, intf: u8) -> Result<(), OutOfMemory>
+        ensures { OnOk result (acts.new
+            ≡ acts.old ++ spelled (links_left (links_of intf (host_of self.now)))) }
+    {
+        let Some(numbers) = self.links.numbers(intf) else {
+            self.leave_sought(acts, intf)?;
+            return Ok(());
+        };
+        for number in numbers {
+            self.leave_numbered(acts, *number, intf)?;
+        }
+        Ok(())
+    }
+
+    /// The connection with a number is closed and given up, where it is one of the interface.
+    fn leave_numbered(&self, acts: &mut Acts, number: u64, intf: u8) -> Result<(), OutOfMemory>
+        ensures { OnOk result (acts.new ≡ acts.old ++ spelled (links_left
+            (filter (λ l. l.intf == intf) (option_to_list (link_of number (host_of self.now)))))) }
+    {
+        if let Some(link) = self.links.of(number) {
+            close(acts, link, intf)?;
+        }
+        Ok(())
+    }
+
+    /// The connections of an interface are closed and given up, wherever they stand.
+    fn leave_sought(&self, acts: &mut Acts, intf: u8) -> Result<(), OutOfMemory>
         ensures { OnOk result (acts.new
             ≡ acts.old ++ spelled (links_left (links_of intf (host_of self.now)))) }
     {
@@ -80,7 +108,7 @@ impl Host {
         ensures { host_of self.new ≡ (one_by_one host_removed intfs.now (host_of self.old)).host }
     {
         for intf in intfs {
-            free(&mut self.images, self.links.items(), *intf);
+            free(&mut self.images, &self.links, *intf);
             self.interfaces.remove(*intf);
             self.links.remove_all(*intf);
         }
@@ -102,8 +130,22 @@ fn close(acts: &mut Acts, link: Link, intf: u8) -> Result<(), OutOfMemory>
     Ok(())
 }
 
-/// The ids of the connections of an interface are free.
-fn free(images: &mut Images, links: &[Link], intf: u8)
+/// The ids of the connections of an interface are free: of those that have its numbers, where these
+/// are known.
+fn free(images: &mut Images, links: &Connections, intf: u8)
+    ensures { images.new ≡ all_forgotten (filter (λ l. l.intf == intf) links.now.items) images.old }
+{
+    let Some(numbers) = links.numbers(intf) else {
+        free_sought(images, links.items(), intf);
+        return;
+    };
+    for number in numbers {
+        images.forget(*number);
+    }
+}
+
+/// The ids of the connections of an interface are free, wherever they stand.
+fn free_sought(images: &mut Images, links: &[Link], intf: u8)
     ensures { images.new ≡ all_forgotten (filter (λ l. l.intf == intf) links.now) images.old }
 {
     for link in links {

@@ -32,5 +32,5 @@ invariant_of-self c =
     let changed : ms ≡ at_first test (link_changed c.args.change) ls = c.put.ensures
     ∙ one-changes test ls c.place.result c.in-Some.place c.get.result c.of-link.result
     (link_changed c.args.change) ls first c.in-Some.is refl c.get.ensures c.of-link.ensures in
-    indexed-kept c.self.inside.cports c.self.inside.ends c.self.inside.known test c.args.change
-    ls ms changed c.self.invariant
+    indexed-kept c.self.inside.cports c.self.inside.ends c.self.inside.numbers c.self.inside.known
+    test c.args.change ls ms changed c.self.invariant

@@ -1,21 +1,57 @@
--- What is kept is right for the connections that stay.
-use Rattle.std.proofs.Common.{sym, ap, ◌∙◌, subst}
-use Rattle.gb_host.proofs.Indexed.{indexed-left}
+-- The connection leaves that is alone at the far end, and what is kept is right for the others.
+use Rattle.std.proofs.Common.{◌≡◌, ◌<◌, rules, sym, ap, ◌∙◌, subst}
+use Rattle.gb_host.proofs.Grouped.{groups-one}
+use Rattle.gb_host.proofs.Indexed.{indexed-left, indexed-recounted}
+use Rattle.gb_host.proofs.Leaving.{end-leaves, end-stays}
 use Rattle.gb_host.specs.Counts.{AreCounted}
+use Rattle.gb_host.specs.LinkList.{LinkList}
 use Rattle.gb_host.proofs.connections.Connections.remove.Goals as goal
 use Rattle.gb_machine.specs.Host.{is_link}
 use Rattle.gb_machine.specs.Lists.{without}
 
 pub invariant_of-self : goal.invariant_of-self
 invariant_of-self c =
+    indexed-recounted c.recount.new.self c.self.inside.ends c.self.inside.numbers
+    c.self.inside.known c.remove.new.self.items c.if-not-self.true
+    (subst (AreCounted c.recount.new.self) c.items.ensures
+    (c.recount.ensures c.self.inside.links.items c.self.invariant.counted))
+
+pub invariant_of-self-in-Some : goal.invariant_of-self-in-Some
+invariant_of-self-in-Some c =
     let ls = c.self.inside.links.items in
-    let ms = c.remove-2.new.self.items in
-    let stay = c.remove-2.ensures in
-    indexed-left c.self.inside.cports c.leave_end.new.self c.self.inside.ends c.remove.new.self
-    c.self.inside.known
-    (is_link c.args.intf c.args.cport) ls ms stay c.self.invariant
-    (subst (AreCounted c.leave_end.new.self)
-    (ap (without (is_link c.args.intf c.args.cport)) c.items.ensures ∙ sym stay)
-    (c.leave_end.ensures (subst (AreCounted c.self.inside.cports) (sym c.items.ensures)
-    c.self.invariant.counted)))
-    (c.remove.ensures ls)
+    let ms = c.leave.new.links.items in
+    let says = c.if-not-self.false in
+    let rises = c.self.invariant.rises says in
+    let named = c.self.invariant.named says in
+    let low : c.args.cport < 65536 = search rules in
+    let left = c.leave.ensures.left rises in
+    let e : ms ≡ without (is_link c.args.intf c.args.cport) ls = left
+    ∙ end-leaves c.self.inside.ends c.args.intf c.args.cport c.in-Some.number ls c.number.result low
+    rises named (c.number.ensures ls named) c.in-Some.is in
+    indexed-left c.leave.new.cports c.leave.new.ends c.remove-in-Some.new.self c.self.inside.known
+    (is_link c.args.intf c.args.cport) ls ms e rises
+    (c.leave.ensures.counted rises c.self.invariant.counted) (c.leave.ensures.named rises named)
+    (groups-one c.args.intf c.args.cport c.in-Some.number c.self.inside.numbers
+    c.remove-in-Some.new.self ls ms left e c.remove-in-Some.ensures (c.self.invariant.grouped says))
+
+pub returns-in-Some : goal.returns-in-Some
+returns-in-Some c =
+    let ls = c.self.inside.links.items in
+    let says = c.if-not-self.false in
+    let rises = c.self.invariant.rises says in
+    let named = c.self.invariant.named says in
+    let low : c.args.cport < 65536 = search rules in
+    c.leave.ensures.left rises
+    ∙ end-leaves c.self.inside.ends c.args.intf c.args.cport c.in-Some.number ls c.number.result low
+    rises named (c.number.ensures ls named) c.in-Some.is
+    ∙ ap (λ (x : LinkList). without (is_link c.args.intf c.args.cport) x.items) c.self.view_is
+
+pub returns-in_default : goal.returns-in_default
+returns-in_default c =
+    let ls = c.self.inside.links.items in
+    let says = c.if-not-self.false in
+    let named = c.self.invariant.named says in
+    let low : c.args.cport < 65536 = search rules in
+    subst (λ (x : LinkList). x.items ≡ without (is_link c.args.intf c.args.cport) x.items)
+    c.self.view_is (sym (end-stays c.self.inside.ends c.args.intf c.args.cport ls c.number.result
+    low named (c.number.ensures ls named) c.in_default.is))

@@ -1,22 +1,30 @@
--- What is kept is right for the connections that stay.
-use Rattle.std.proofs.Common.{◌==◌, sym, ap, ◌∙◌, subst}
-use Rattle.gb_host.proofs.Indexed.{indexed-left}
+-- The connections with the numbers of the interface leave, and what is kept is right for the others.
+use Rattle.std.proofs.Common.{◌≡◌, ◌==◌, ◌∙◌, subst}
+use Rattle.gb_host.proofs.Grouped.{groups-all}
+use Rattle.gb_host.proofs.Indexed.{indexed-left, indexed-recounted}
 use Rattle.gb_host.specs.Counts.{AreCounted}
-use Rattle.gb_host.specs.Named.{AreNamed}
 use Rattle.gb_machine.specs.Lists.{without}
 use Rattle.gb_host.proofs.connections.Connections.remove_all.Goals as goal
 
 pub invariant_of-self : goal.invariant_of-self
 invariant_of-self c =
+    indexed-recounted c.recount.new.self c.self.inside.ends c.self.inside.numbers
+    c.self.inside.known c.remove_all.new.self.items c.if-not-self.true
+    (subst (AreCounted c.recount.new.self) c.items.ensures
+    (c.recount.ensures c.self.inside.links.items c.self.invariant.counted))
+
+pub invariant_of-self-2 : goal.invariant_of-self-2
+invariant_of-self-2 c =
     let ls = c.self.inside.links.items in
-    let ms = c.remove_all-2.new.self.items in
-    let live = sym c.items-live.ensures in
-    let stay = c.remove_all-2.ensures in
-    indexed-left c.self.inside.cports c.leave_all.new.self c.self.inside.ends
-    c.remove_all.new.self c.self.inside.known
-    (λ l. l.intf == c.args.intf) ls ms stay c.self.invariant
-    (subst (AreCounted c.leave_all.new.self)
-    (ap (without (λ l. l.intf == c.args.intf)) c.items-live.ensures ∙ sym stay)
-    (c.leave_all.ensures (subst (AreCounted c.self.inside.cports) live c.self.invariant.counted)))
-    (λ named. subst (λ ks. AreNamed c.remove_all.new.self (without (λ l. l.intf == c.args.intf) ks))
-    c.items-live.ensures (c.remove_all.ensures (subst (AreNamed c.self.inside.ends) live named)))
+    let ms = c.leave_all.new.links.items in
+    let says = c.if-not-self.false in
+    let rises = c.self.invariant.rises says in
+    let grouped = c.self.invariant.grouped says in
+    let e : ms ≡ without (λ l. l.intf == c.args.intf) ls =
+    c.leave_all.ensures.left (λ l. l.intf == c.args.intf) rises
+    (c.of-numbers.ensures.numbers ∙ grouped c.args.intf) in
+    indexed-left c.leave_all.new.cports c.leave_all.new.ends c.clear.new.self c.self.inside.known
+    (λ l. l.intf == c.args.intf) ls ms e rises
+    (c.leave_all.ensures.counted rises c.self.invariant.counted)
+    (c.leave_all.ensures.named rises (c.self.invariant.named says))
+    (groups-all c.args.intf c.self.inside.numbers c.clear.new.self ls ms e c.clear.ensures grouped)

@@ -1,13 +1,7 @@
 -- The far end of the connection has a number.
-use Rattle.std.proofs.Common.{◌≡◌, true, false, sym, ◌∙◌}
-use Rattle.gb_host.proofs.FarEnds.{ends-new, ends-there, on-ok}
+use Rattle.std.proofs.Common.{◌≡◌, false, sym, ◌∙◌}
+use Rattle.gb_host.proofs.FarEnds.{ends-new, on-ok}
 use Rattle.gb_host.proofs.ends.Ends.add.Goals as goal
-
-pub returns-then-contains_key : goal.returns-then-contains_key
-returns-then-contains_key c = λ ls named says.
-    let there : c.contains_key.result ≡ true = search in
-    ends-there c.args.self.now ls c.args.link c.far_end-end.result c.far_end-end.ensures.fits
-    c.far_end-end.ensures.number (sym c.contains_key.ensures ∙ there) named
 
 pub returns : goal.returns
 returns c = λ ls named says.

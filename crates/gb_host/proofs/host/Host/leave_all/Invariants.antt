@@ -5,7 +5,8 @@ use Rattle.gb_machine.specs.HostTurns.{links_left}
 use Rattle.gb_host.specs.Turning.{spelled}
 use Rattle.gb_host.proofs.host.Host.leave_all.Given as goal
 
-abbrev pub invariant-loop-link : goal.invariant-loop-link
-invariant-loop-link l =
-    l.acts ++ spelled (links_left (filter (λ k. k.intf == l.intf) (drop l.link-index l.link-items)))
-    ≡ l.fn.acts ++ spelled (links_left (filter (λ k. k.intf == l.intf) l.link-items))
+abbrev pub invariant-loop-number : goal.invariant-loop-number
+invariant-loop-number l =
+    l.acts ++ spelled (links_left (drop l.number-index
+    (filter (λ k. k.intf == l.intf) l.self.links.items)))
+    ≡ l.fn.acts ++ spelled (links_left (filter (λ k. k.intf == l.intf) l.self.links.items))

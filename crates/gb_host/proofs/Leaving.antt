@@ -1,0 +1,129 @@
+-- What is kept of connections, as one with a number leaves.
+use Rattle.std.proofs.Common.{◌≡◌, ◌==◌, ◌&&◌, ◌<◌, ◌≤◌, ◌+◌, ℕ, Bool, true, nat_eq, Option, Some}
+use Rattle.std.proofs.Common.{None, List, ◌∷◌, ◌++◌, length, get_or, drop, refl, sym, ap, ◌∙◌, subst}
+use Rattle.std.proofs.lemmas.List.{drop_all, drop_more}
+use Rattle.std.specs.HashMap.{get}
+use Rattle.std.specs.List.{find}
+use Rattle.std.specs.Option.{option_to_list}
+use Rattle.gb_base.specs.declared.interface.Link.{Link}
+use Rattle.gb_host.proofs.Named.{alike, number_of}
+use Rattle.gb_host.proofs.Numbers.{alone, has_number, none-found, none-numbers, one-number}
+use Rattle.gb_host.proofs.Numbers.{first-leaves, only-leaves, split-found}
+use Rattle.gb_host.proofs.Rising.{rises-without}
+use Rattle.gb_host.specs.Counts.{AreCounted}
+use Rattle.gb_host.specs.Indexes.{Rises}
+use Rattle.gb_host.specs.Named.{AreNamed, end_number}
+use Rattle.gb_host.specs.Numbers.{numbers_where}
+use Rattle.gb_host.specs.declared.cports.Cports.{Cports}
+use Rattle.gb_host.specs.declared.ends.Ends.{Ends}
+use Rattle.gb_machine.specs.Host.{is_link}
+use Rattle.gb_machine.specs.Lists.{without}
+
+-- there is none with the number
+pub none-leaves : (P : List Link → Type 0) (k : ℕ) (ls ms : List Link) (o : Option Link)
+    → o ≡ find (has_number k) ls → o ≡ None → ms ≡ without (has_number k) ls → P ls → P ms
+none-leaves P k ls ms o e none left all =
+    subst P (sym (left ∙ none-found (has_number k) ls (sym e ∙ none))) all
+
+-- its CPort has a connection fewer
+pub counted-left : (x y : Cports) (k : ℕ) (ls ms : List Link) (o : Option Link) (l : Link)
+    → Rises ls → o ≡ find (has_number k) ls → o ≡ Some l → ms ≡ without (has_number k) ls
+    → ((front behind : List Link) → AreCounted x (front ++ l ∷ behind)
+    → AreCounted y (front ++ behind))
+    → AreCounted x ls → AreCounted y ms
+counted-left x y k ls ms o l rises e some left leaves counted =
+    let split = split-found k ls l rises (sym e ∙ some) in
+    subst (AreCounted y) (sym (left ∙ split.rest))
+    (leaves split.front split.behind (subst (AreCounted x) split.whole counted))
+
+-- its far end has none any more
+pub named-left : (x y : Ends) (k : ℕ) (ls ms : List Link) (o : Option Link) (l : Link)
+    → l.cport < 65536 → Rises ls → o ≡ find (has_number k) ls → o ≡ Some l
+    → ms ≡ without (has_number k) ls
+    → ((ks : List Link) → AreNamed x ks → AreNamed y (without (is_link l.intf l.cport) ks))
+    → AreNamed x ls → AreNamed y ms
+named-left x y k ls ms o l low rises e some left leaves named =
+    let split = split-found k ls l rises (sym e ∙ some) in
+    let at = is_link l.intf l.cport in
+    let here : at l ≡ true =
+    ap (λ b. b && l.cport == l.cport) (alike l.intf l.intf refl) ∙ alike l.cport l.cport refl in
+    let one : without at (split.front ++ l ∷ split.behind) ≡ split.front ++ split.behind =
+    alone (get nat_eq x.numbers (end_number l.intf l.cport)) at split.front split.behind l here
+    (named l.intf l.cport low ∙ ap (numbers_where at) split.whole) in
+    subst (AreNamed y) (ap (without at) split.whole ∙ one ∙ sym (left ∙ split.rest))
+    (leaves ls named)
+
+-- ---- the one at a far end
+
+-- its number is the only one there
+only-number : (x : Ends) (i c : ℕ) (ls : List Link) (o : Option ℕ) → c < 65536 → AreNamed x ls
+    → o ≡ number_of (find (is_link i c) ls) → option_to_list o ≡ numbers_where (is_link i c) ls
+only-number x i c ls o low named e =
+    ap option_to_list (e ∙ sym (one-number (get nat_eq x.numbers (end_number i c)) (is_link i c) ls
+    (named i c low))) ∙ named i c low
+
+-- without it, none is there
+pub end-leaves : (x : Ends) (i c k : ℕ) (ls : List Link) (o : Option ℕ) → c < 65536 → Rises ls
+    → AreNamed x ls → o ≡ number_of (find (is_link i c) ls) → o ≡ Some k
+    → without (has_number k) ls ≡ without (is_link i c) ls
+end-leaves x i c k ls o low rises named e some =
+    only-leaves (is_link i c) k ls rises
+    (sym (only-number x i c ls o low named e) ∙ ap option_to_list some)
+
+-- where none is there, all stay
+pub end-stays : (x : Ends) (i c : ℕ) (ls : List Link) (o : Option ℕ) → c < 65536
+    → AreNamed x ls → o ≡ number_of (find (is_link i c) ls) → o ≡ None
+    → without (is_link i c) ls ≡ ls
+end-stays x i c ls o low named e none =
+    none-numbers (is_link i c) ls
+    (sym (only-number x i c ls o low named e) ∙ ap option_to_list none)
+
+-- ---- those with some numbers, one after another
+
+-- the first ones are gone
+pub record AreGoing (cports cports' : Cports) (ends ends' : Ends) (numbers rest : List ℕ)
+    (ls ms : List Link) : Type 0 where
+  pub rises : Rises ms
+  pub left : (test : Link → Bool) → numbers ≡ numbers_where test ls
+      → (numbers_where test ms ≡ rest) × (without test ms ≡ without test ls)
+  pub counted : AreCounted cports ls → AreCounted cports' ms
+  pub named : AreNamed ends ls → AreNamed ends' ms
+
+-- at first none is
+pub going-all : (cports : Cports) (ends : Ends) (numbers : List ℕ) (ls : List Link) → Rises ls
+    → AreGoing cports cports ends ends numbers numbers ls ls
+going-all cports ends numbers ls rises = record {
+  rises = rises;
+  left = λ test e. (sym e, refl);
+  counted = λ counted. counted;
+  named = λ named. named;
+}
+
+-- the next leaves
+pub going-next : (w x y : Cports) (s t u : Ends) (ns : List ℕ) (n : ℕ) (ls ms ks : List Link)
+    → n < length ns → (Rises ms → ks ≡ without (has_number (get_or ns n 0)) ms)
+    → (Rises ms → AreCounted x ms → AreCounted y ks) → (Rises ms → AreNamed t ms → AreNamed u ks)
+    → AreGoing w x s t ns (drop n ns) ls ms → AreGoing w y s u ns (drop (n + 1) ns) ls ks
+going-next w x y s t u ns n ls ms ks within left counted named going = record {
+  rises = rises-without (has_number k) ms ks (left going.rises) going.rises;
+  left = λ test e.
+      let before = going.left test e in
+      let gone = first-leaves test k ms (drop (n + 1) ns) going.rises (before.0
+      ∙ drop_more ns n 0 within) in (
+        ap (numbers_where test) (left going.rises) ∙ gone.0,
+        ap (without test) (left going.rises) ∙ gone.1 ∙ before.1,
+      );
+  counted = λ before. counted going.rises (going.counted before);
+  named = λ before. named going.rises (going.named before);
+}
+  where
+    k : ℕ
+    k = get_or ns n 0
+
+-- at last all are
+pub going-over : (w x : Cports) (s t : Ends) (ns : List ℕ) (n : ℕ) (ls ms : List Link)
+    → length ns ≤ n → AreGoing w x s t ns (drop n ns) ls ms → (test : Link → Bool)
+    → ns ≡ numbers_where test ls → ms ≡ without test ls
+going-over w x s t ns n ls ms over going test e =
+    let left = going.left test e in
+    sym (none-numbers test ms (left.0 ∙ drop_all n ns over)) ∙ left.1
