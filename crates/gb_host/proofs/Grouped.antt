@@ -12,7 +12,8 @@ use Rattle.gb_base.specs.declared.interface.Link.{Link}
 use Rattle.gb_groups.proofs.Rising.{inserted-last}
 use Rattle.gb_groups.specs.Groups.{Regroups, left_out, numbers_in}
 use Rattle.gb_host.proofs.Named.{alike, equals}
-use Rattle.gb_host.proofs.Numbers.{filter-same, has_number, numbers-left, numbers-more, numbers-same}
+use Rattle.gb_host.proofs.Numbers.{filter-same, has_number, numbers-left, numbers-more}
+use Rattle.gb_host.proofs.Numbers.{numbers-same}
 use Rattle.gb_host.proofs.Rising.{and-both}
 use Rattle.gb_host.specs.Indexes.{AreGrouped, Rises}
 use Rattle.gb_host.specs.Numbers.{numbers_where}

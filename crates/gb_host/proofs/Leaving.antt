@@ -1,15 +1,17 @@
 -- What is kept of connections, as one with a number leaves.
 use Rattle.std.proofs.Common.{◌≡◌, ◌==◌, ◌&&◌, ◌<◌, ◌≤◌, ◌+◌, ℕ, Bool, true, nat_eq, Option, Some}
-use Rattle.std.proofs.Common.{None, List, ◌∷◌, ◌++◌, length, get_or, drop, refl, sym, ap, ◌∙◌, subst}
+use Rattle.std.proofs.Common.{None, List, ◌∷◌, ◌++◌, length, get_or, drop, refl, sym, ap, ◌∙◌}
+use Rattle.std.proofs.Common.{subst}
 use Rattle.std.proofs.lemmas.List.{drop_all, drop_more}
 use Rattle.std.specs.HashMap.{get}
 use Rattle.std.specs.List.{find}
 use Rattle.std.specs.Option.{option_to_list}
 use Rattle.gb_base.specs.declared.interface.Link.{Link}
 use Rattle.gb_host.proofs.Named.{alike, number_of}
-use Rattle.gb_host.proofs.Numbers.{alone, has_number, none-found, none-numbers, one-number}
-use Rattle.gb_host.proofs.Numbers.{first-leaves, only-leaves, split-found}
+use Rattle.gb_host.proofs.Numbers.{alone, has_number, none-numbers, one-number}
+use Rattle.gb_host.proofs.Numbers.{first-leaves, only-leaves}
 use Rattle.gb_host.proofs.Rising.{rises-without}
+use Rattle.gb_host.specs.Changes.{IsTaken}
 use Rattle.gb_host.specs.Counts.{AreCounted}
 use Rattle.gb_host.specs.Indexes.{Rises}
 use Rattle.gb_host.specs.Named.{AreNamed, end_number}
@@ -19,39 +21,27 @@ use Rattle.gb_host.specs.declared.ends.Ends.{Ends}
 use Rattle.gb_machine.specs.Host.{is_link}
 use Rattle.gb_machine.specs.Lists.{without}
 
--- there is none with the number
-pub none-leaves : (P : List Link → Type 0) (k : ℕ) (ls ms : List Link) (o : Option Link)
-    → o ≡ find (has_number k) ls → o ≡ None → ms ≡ without (has_number k) ls → P ls → P ms
-none-leaves P k ls ms o e none left all =
-    subst P (sym (left ∙ none-found (has_number k) ls (sym e ∙ none))) all
-
 -- its CPort has a connection fewer
-pub counted-left : (x y : Cports) (k : ℕ) (ls ms : List Link) (o : Option Link) (l : Link)
-    → Rises ls → o ≡ find (has_number k) ls → o ≡ Some l → ms ≡ without (has_number k) ls
+pub counted-left : (x y : Cports) (ls ms : List Link) (l : Link) → IsTaken l ls ms
     → ((front behind : List Link) → AreCounted x (front ++ l ∷ behind)
     → AreCounted y (front ++ behind))
     → AreCounted x ls → AreCounted y ms
-counted-left x y k ls ms o l rises e some left leaves counted =
-    let split = split-found k ls l rises (sym e ∙ some) in
-    subst (AreCounted y) (sym (left ∙ split.rest))
-    (leaves split.front split.behind (subst (AreCounted x) split.whole counted))
+counted-left x y ls ms l taken leaves counted =
+    subst (AreCounted y) (sym taken.new_is)
+    (leaves taken.front taken.behind (subst (AreCounted x) taken.old_is counted))
 
 -- its far end has none any more
-pub named-left : (x y : Ends) (k : ℕ) (ls ms : List Link) (o : Option Link) (l : Link)
-    → l.cport < 65536 → Rises ls → o ≡ find (has_number k) ls → o ≡ Some l
-    → ms ≡ without (has_number k) ls
+pub named-left : (x y : Ends) (ls ms : List Link) (l : Link) → l.cport < 65536 → IsTaken l ls ms
     → ((ks : List Link) → AreNamed x ks → AreNamed y (without (is_link l.intf l.cport) ks))
     → AreNamed x ls → AreNamed y ms
-named-left x y k ls ms o l low rises e some left leaves named =
-    let split = split-found k ls l rises (sym e ∙ some) in
+named-left x y ls ms l low taken leaves named =
     let at = is_link l.intf l.cport in
     let here : at l ≡ true =
     ap (λ b. b && l.cport == l.cport) (alike l.intf l.intf refl) ∙ alike l.cport l.cport refl in
-    let one : without at (split.front ++ l ∷ split.behind) ≡ split.front ++ split.behind =
-    alone (get nat_eq x.numbers (end_number l.intf l.cport)) at split.front split.behind l here
-    (named l.intf l.cport low ∙ ap (numbers_where at) split.whole) in
-    subst (AreNamed y) (ap (without at) split.whole ∙ one ∙ sym (left ∙ split.rest))
-    (leaves ls named)
+    let one : without at (taken.front ++ l ∷ taken.behind) ≡ taken.front ++ taken.behind =
+    alone (get nat_eq x.numbers (end_number l.intf l.cport)) at taken.front taken.behind l here
+    (named l.intf l.cport low ∙ ap (numbers_where at) taken.old_is) in
+    subst (AreNamed y) (ap (without at) taken.old_is ∙ one ∙ sym taken.new_is) (leaves ls named)
 
 -- ---- the one at a far end
 

@@ -19,4 +19,5 @@ pub mod Numbers
 pub mod Ordering
 pub mod Restoring
 pub mod Rising
+pub mod Sought
 pub mod Unawaited

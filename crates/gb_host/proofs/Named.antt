@@ -16,14 +16,6 @@ equals a b h = grind (arith, nat_tests)
 pub alike : (a b : ℕ) → a ≡ b → (a == b) ≡ true
 alike a b h = grind (arith, nat_tests)
 
--- numbers that differ
-pub unlike : (a b : ℕ) → (a ≡ b → ⊥) → (a == b) ≡ false
-unlike a b h = by (a == b) refl
-  where
-    by : (t : Bool) → (a == b) ≡ t → t ≡ false
-    by true e = absurd (h (equals a b e))
-    by false e = refl
-
 -- the number of a connection, where there is one
 abbrev pub number_of : Option Link → Option ℕ
 number_of o = option_map (λ l. l.connection) o

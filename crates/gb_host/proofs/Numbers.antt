@@ -9,7 +9,7 @@ use Rattle.std.specs.List.{AllByRecursion, filter, find}
 use Rattle.std.specs.Option.{option_to_list}
 use Rattle.gb_base.specs.declared.interface.Link.{Link}
 use Rattle.gb_host.proofs.Known.{all-find}
-use Rattle.gb_host.proofs.Named.{alike, equals, number_of}
+use Rattle.gb_host.proofs.Named.{alike, number_of}
 use Rattle.gb_host.specs.Indexes.{Rises}
 use Rattle.gb_host.specs.Numbers.{numbers_where}
 use Rattle.gb_machine.specs.Lists.{at_first, without}
@@ -52,56 +52,6 @@ first-above p k n (l ∷ ls) rest above e = by (p l) e (first-above p k n ls res
     by true e later =
         let same : l.connection ≡ n = cc in subst (λ m. k < m) same above.0
     by false e later = later e
-
--- ---- one is found by its number
-
--- a connection stands between others, and these are the rest
-pub record IsSplit (ls ms : List Link) (l : Link) : Type 0 where
-  pub front : List Link
-  pub behind : List Link
-  pub whole : ls ≡ front ++ l ∷ behind
-  pub rest : ms ≡ front ++ behind
-
--- without the one with a number, the rest stays
-pub split-found : (k : ℕ) (ls : List Link) (l : Link) → Rises ls
-    → find (has_number k) ls ≡ Some l → IsSplit ls (without (has_number k) ls) l
-split-found k [] l rises e = absurd cc
-split-found k (m ∷ ls) l rises e =
-    by (m.connection == k) refl e (split-found k ls l (rises-behind m ls rises))
-  where
-    by : (b : Bool) → (m.connection == k) ≡ b
-        → cond b (Some m) (find (has_number k) ls) ≡ Some l
-        → (find (has_number k) ls ≡ Some l → IsSplit ls (without (has_number k) ls) l)
-        → IsSplit (m ∷ ls)
-        (cond (not b) (m ∷ without (has_number k) ls) (without (has_number k) ls)) l
-    by true t e later =
-        let same : m ≡ l = cc in
-        record {
-          front = [];
-          behind = ls;
-          whole = ap (λ n. n ∷ ls) same;
-          rest = none-numbered k ls
-              (subst (λ n. AreAbove n ls) (equals m.connection k t) (above-first m ls rises));
-        }
-    by false t e later =
-        let split = later e in
-        record {
-          front = m ∷ split.front;
-          behind = split.behind;
-          whole = ap (λ ns. m ∷ ns) split.whole;
-          rest = ap (λ ns. m ∷ ns) split.rest;
-        }
-
--- where none is found, all stay
-pub none-found : (p : Link → Bool) (ls : List Link) → find p ls ≡ None → without p ls ≡ ls
-none-found p [] e = refl
-none-found p (l ∷ ls) e = by (p l) e (none-found p ls)
-  where
-    by : (b : Bool) → cond b (Some l) (find p ls) ≡ None
-        → (find p ls ≡ None → without p ls ≡ ls)
-        → cond (not b) (l ∷ without p ls) (without p ls) ≡ l ∷ ls
-    by true e later = absurd cc
-    by false e later = ap (λ ks. l ∷ ks) (later e)
 
 -- ---- those that pass a test
 

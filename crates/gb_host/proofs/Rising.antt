@@ -267,7 +267,7 @@ found-one test live ls o i l same first was is =
     ∙ sym ((standing test live i (sym first ∙ was)).found l) ∙ ap (find test) same
 
 -- the one that passes a test passes it
-found-passes : (test : Link → Bool) (ls : List Link) (l : Link) → find test ls ≡ Some l
+pub found-passes : (test : Link → Bool) (ls : List Link) (l : Link) → find test ls ≡ Some l
     → test l ≡ true
 found-passes test [] l h = absurd cc
 found-passes test (m ∷ ls) l h = by (test m) refl h (found-passes test ls l)

@@ -1,14 +1,14 @@
 //! The connections to modules, with what is kept to look them up.
 
 ghost use Rattle.std.specs.Prelude.{◌≡◌, ◌==◌, ◌<◌, ◌∷◌, [], ◌++◌, None, IfOk, IfSome, OnOk};
-ghost use Rattle.std.specs.Prelude.{Bool, find, length};
-ghost use Rattle.std.specs.List.{list_any, position_from};
+ghost use Rattle.std.specs.Prelude.{Bool, List, find, length, map};
+ghost use Rattle.std.specs.List.{filter, list_any, position_from};
 ghost use Rattle.gb_base.specs.declared.interface.Link.{Link};
 ghost use Rattle.gb_host.specs.Counts.{AreCounted};
 ghost use Rattle.gb_host.specs.Indexes.{Rises};
 ghost use Rattle.gb_host.specs.Named.{AreNamed};
 ghost use Rattle.gb_host.specs.Numbers.{numbers_where};
-ghost use Rattle.gb_machine.specs.Host.{in_state, is_link};
+ghost use Rattle.gb_machine.specs.Host.{all_forgotten, in_state, is_link};
 ghost use Rattle.gb_machine.specs.HostServing.{with_credits};
 ghost use Rattle.gb_machine.specs.Lists.{at_first, first_free, without};
 ghost use Rattle.gb_machine.specs.Waits.{link_waits};
@@ -16,7 +16,8 @@ ghost use Rattle.gb_machine.specs.Waits.{link_waits};
 use crate::cports::Cports;
 use crate::ends::Ends;
 use crate::links::{LinkChange, Links};
-use gb_base::{ConnState, Link, OutOfMemory, Purpose, SequenceStep};
+use gb_base::{ConnState, Link, OutOfMemory, Purpose, Sequence, SequenceStep};
+use gb_firmware::Images;
 use gb_groups::Groups;
 use std::alloc::Global;
 use std::marker::Model;
@@ -64,13 +65,6 @@ impl Connections {
         })
     }
 
-    /// The connections in order of number.
-    pub fn items(&self) -> &[Link]
-        ensures { result.now ≡ self.now.items }
-    {
-        self.links.items()
-    }
-
     /// The connection to a CPort of an interface.
     #[inline]
     pub fn at(&self, intf: u8, cport: u16) -> Option<Link>
@@ -92,16 +86,14 @@ impl Connections {
         }
     }
 
-    /// The numbers of the connections of an interface in order, where they are known.
-    pub fn numbers(&self, intf: u8) -> Option<&[u64]>
-        ensures numbers { IfSome result (λ ns.
-            ns.now ≡ numbers_where (λ l. l.intf == intf) self.now.items) }
-        ensures rises { IfSome result (λ ns. Rises self.now.items) }
+    /// The connections of an interface in order.
+    pub fn of_interface(&self, alloc: Global, intf: u8) -> Result<Sequence<Link>, OutOfMemory>
+        ensures { IfOk result (λ ls. ls ≡ filter (λ l. l.intf == intf) self.now.items) }
     {
         if self.known {
-            Some(self.numbers.of(intf))
+            numbered(alloc, &self.links, self.numbers.of(intf))
         } else {
-            None
+            self.links.of_interface(alloc, intf)
         }
     }
 
@@ -159,8 +151,7 @@ impl Connections {
         ensures { self.new.items ≡ without (is_link intf cport) self.old.items }
     {
         if !self.known {
-            self.links.remove(intf, cport);
-            self.cports.recount(self.links.items());
+            leave_at(&mut self.links, &mut self.cports, intf, cport);
             return;
         }
         if let Some(number) = self.ends.number(intf, cport) {
@@ -169,16 +160,18 @@ impl Connections {
         }
     }
 
-    /// The connections of an interface are there no more.
-    pub fn remove_all(&mut self, intf: u8)
-        ensures { self.new.items ≡ without (λ l. l.intf == intf) self.old.items }
+    /// The connections of an interface are there no more, and their ids are free.
+    pub fn remove_all(&mut self, images: &mut Images, intf: u8)
+        ensures left { self.new.items ≡ without (λ l. l.intf == intf) self.old.items }
+        ensures ids { images.new
+            ≡ all_forgotten (filter (λ l. l.intf == intf) self.old.items) images.old }
     {
         if !self.known {
-            self.links.remove_all(intf);
-            self.cports.recount(self.links.items());
+            leave_of(&mut self.links, &mut self.cports, images, intf);
             return;
         }
         let numbers = self.numbers.of(intf);
+        free(images, numbers);
         leave_all(&mut self.links, &mut self.cports, &mut self.ends, numbers);
         self.numbers.clear(intf);
     }
@@ -282,4 +275,55 @@ fn leave_all(links: &mut Links, cports: &mut Cports, ends: &mut Ends, numbers: &
     for number in numbers {
         leave(links, cports, ends, *number);
     }
+}
+
+/// The connections to a CPort of an interface are there no more.
+fn leave_at(links: &mut Links, cports: &mut Cports, intf: u8, cport: u16)
+    ensures left { links.new.items ≡ without (is_link intf cport) links.old.items }
+    ensures counted { AreCounted cports.old links.old.items
+        → AreCounted cports.new links.new.items }
+{
+    while let Some(link) = links.take_at(intf, cport) {
+        cports.leave(link);
+    }
+}
+
+/// The connections of an interface are there no more, and their ids are free.
+fn leave_of(links: &mut Links, cports: &mut Cports, images: &mut Images, intf: u8)
+    ensures left { links.new.items ≡ without (λ l. l.intf == intf) links.old.items }
+    ensures counted { AreCounted cports.old links.old.items
+        → AreCounted cports.new links.new.items }
+    ensures ids { images.new
+        ≡ all_forgotten (filter (λ l. l.intf == intf) links.old.items) images.old }
+{
+    while let Some(link) = links.take_of(intf) {
+        cports.leave(link);
+        images.forget(link.connection);
+    }
+}
+
+/// The ids of the connections with these numbers are free.
+fn free(images: &mut Images, numbers: &[u64])
+    ensures { (ls : List Link) → numbers.now ≡ map (λ l. l.connection) ls
+        → images.new ≡ all_forgotten ls images.old }
+{
+    for number in numbers {
+        images.forget(*number);
+    }
+}
+
+/// The connections with these numbers, where numbers rise and these are the numbers of all that
+/// pass a test.
+fn numbered(alloc: Global, links: &Links, numbers: &[u64]) -> Result<Sequence<Link>, OutOfMemory>
+    ensures { IfOk result (λ found. (test : Link → Bool) → Rises links.now.items
+        → numbers.now ≡ numbers_where test links.now.items
+        → found ≡ filter test links.now.items) }
+{
+    let mut found = Sequence::new(alloc);
+    for number in numbers {
+        if let Some(link) = links.of_rising(*number) {
+            found.push(link)?;
+        }
+    }
+    Ok(found)
 }

@@ -61,17 +61,6 @@ impl Cports {
         }
     }
 
-    /// These connections alone have their CPorts.
-    pub fn recount(&mut self, live: &[Link])
-        ensures { (ls : List Link) → AreCounted self.old ls → AreCounted self.new live.now }
-    {
-        self.counts.fill(0);
-        self.least = LEAST_CPORT;
-        for link in live {
-            self.take(*link);
-        }
-    }
-
     /// A connection fewer has its CPort.
     pub fn leave(&mut self, link: Link)
         ensures { (front behind : List Link) → AreCounted self.old (front ++ link ∷ behind)

@@ -13,8 +13,8 @@ use std::collections::HashMap;
 /// How many numbers a CPort can have.
 const CPORTS: u32 = 65_536;
 
-/// The number of the connection at each far end: an interface and its CPort, as one number. There is
-/// one at most.
+/// The number of the connection at each far end: an interface and its CPort, as one number. One is
+/// there at most.
 #[derive(Drop)]
 pub struct Ends {
     numbers: HashMap<u32, u64>,

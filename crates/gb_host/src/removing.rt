@@ -1,17 +1,15 @@
 //! The removal of a module.
 
-ghost use Rattle.std.specs.Prelude.{◌≡◌, ◌==◌, ◌++◌, ◌∷◌, [], OnOk, option_to_list};
-ghost use Rattle.std.specs.List.{filter, list_any};
+ghost use Rattle.std.specs.Prelude.{◌≡◌, ◌==◌, ◌++◌, ◌∷◌, [], OnOk};
+ghost use Rattle.std.specs.List.{list_any};
 ghost use Rattle.gb_host.specs.Turning.{spelled};
-ghost use Rattle.gb_machine.specs.Host.{all_forgotten, interfaces_of, link_of};
+ghost use Rattle.gb_machine.specs.Host.{interfaces_of};
 ghost use Rattle.gb_machine.specs.HostTurns.{host_removed, links_left, links_of, one_by_one};
 
 use crate::connecting::leave;
-use crate::connections::Connections;
 use crate::failing::tell_interface;
 use crate::{Act, Acts, Host};
 use gb_base::{IntfStage, Link, OutOfMemory};
-use gb_firmware::Images;
 
 impl Host {
     ghost use Rattle.gb_host.specs.Stands.{host_of};
@@ -65,41 +63,13 @@ impl Host {
         Ok(())
     }
 
-    /// The connections of an interface are closed and given up, one after another: those that have
-    /// its numbers, where these are known.
+    /// The connections of an interface are closed and given up, one after another.
     fn leave_all(&self, acts: &mut Acts, intf: u8) -> Result<(), OutOfMemory>
         ensures { OnOk result (acts.new
             ≡ acts.old ++ spelled (links_left (links_of intf (host_of self.now)))) }
     {
-        let Some(numbers) = self.links.numbers(intf) else {
-            self.leave_sought(acts, intf)?;
-            return Ok(());
-        };
-        for number in numbers {
-            self.leave_numbered(acts, *number, intf)?;
-        }
-        Ok(())
-    }
-
-    /// The connection with a number is closed and given up, where it is one of the interface.
-    fn leave_numbered(&self, acts: &mut Acts, number: u64, intf: u8) -> Result<(), OutOfMemory>
-        ensures { OnOk result (acts.new ≡ acts.old ++ spelled (links_left
-            (filter (λ l. l.intf == intf) (option_to_list (link_of number (host_of self.now)))))) }
-    {
-        if let Some(link) = self.links.of(number) {
-            close(acts, link, intf)?;
-        }
-        Ok(())
-    }
-
-    /// The connections of an interface are closed and given up, wherever they stand.
-    fn leave_sought(&self, acts: &mut Acts, intf: u8) -> Result<(), OutOfMemory>
-        ensures { OnOk result (acts.new
-            ≡ acts.old ++ spelled (links_left (links_of intf (host_of self.now)))) }
-    {
-        for link in self.links.items() {
-            close(acts, *link, intf)?;
-        }
+        let links = self.links.of_interface(self.alloc, intf)?;
+        close_all(acts, links.items())?;
         Ok(())
     }
 
@@ -108,51 +78,31 @@ impl Host {
         ensures { host_of self.new ≡ (one_by_one host_removed intfs.now (host_of self.old)).host }
     {
         for intf in intfs {
-            free(&mut self.images, &self.links, *intf);
             self.interfaces.remove(*intf);
-            self.links.remove_all(*intf);
+            self.links.remove_all(&mut self.images, *intf);
         }
     }
 }
 
-/// A connection is closed and given up, where it is one of the interface.
-fn close(acts: &mut Acts, link: Link, intf: u8) -> Result<(), OutOfMemory>
-    ensures { OnOk result (acts.new ≡ acts.old
-        ++ spelled (links_left (filter (λ l. l.intf == intf) (link ∷ [])))) }
+/// Connections are closed and given up, one after another.
+fn close_all(acts: &mut Acts, links: &[Link]) -> Result<(), OutOfMemory>
+    ensures { OnOk result (acts.new ≡ acts.old ++ spelled (links_left links.now)) }
 {
-    if link.intf != intf {
-        return Ok(());
+    for link in links {
+        close(acts, *link)?;
     }
+    Ok(())
+}
+
+/// A connection is closed and given up.
+fn close(acts: &mut Acts, link: Link) -> Result<(), OutOfMemory>
+    ensures { OnOk result (acts.new ≡ acts.old ++ spelled (links_left (link ∷ []))) }
+{
     acts.push(Act::Shut {
         connection: link.connection,
     })?;
     leave(acts, link)?;
     Ok(())
-}
-
-/// The ids of the connections of an interface are free: of those that have its numbers, where these
-/// are known.
-fn free(images: &mut Images, links: &Connections, intf: u8)
-    ensures { images.new ≡ all_forgotten (filter (λ l. l.intf == intf) links.now.items) images.old }
-{
-    let Some(numbers) = links.numbers(intf) else {
-        free_sought(images, links.items(), intf);
-        return;
-    };
-    for number in numbers {
-        images.forget(*number);
-    }
-}
-
-/// The ids of the connections of an interface are free, wherever they stand.
-fn free_sought(images: &mut Images, links: &[Link], intf: u8)
-    ensures { images.new ≡ all_forgotten (filter (λ l. l.intf == intf) links.now) images.old }
-{
-    for link in links {
-        if link.intf == intf {
-            images.forget(link.connection);
-        }
-    }
 }
 
 /// An interface is one of these.

@@ -3,7 +3,6 @@ use Rattle.std.proofs.Common.{◌≡◌, ◌<◌, rules, sym, ap, ◌∙◌, sub
 use Rattle.gb_host.proofs.Grouped.{groups-one}
 use Rattle.gb_host.proofs.Indexed.{indexed-left, indexed-recounted}
 use Rattle.gb_host.proofs.Leaving.{end-leaves, end-stays}
-use Rattle.gb_host.specs.Counts.{AreCounted}
 use Rattle.gb_host.specs.LinkList.{LinkList}
 use Rattle.gb_host.proofs.connections.Connections.remove.Goals as goal
 use Rattle.gb_machine.specs.Host.{is_link}
@@ -11,10 +10,9 @@ use Rattle.gb_machine.specs.Lists.{without}
 
 pub invariant_of-self : goal.invariant_of-self
 invariant_of-self c =
-    indexed-recounted c.recount.new.self c.self.inside.ends c.self.inside.numbers
-    c.self.inside.known c.remove.new.self.items c.if-not-self.true
-    (subst (AreCounted c.recount.new.self) c.items.ensures
-    (c.recount.ensures c.self.inside.links.items c.self.invariant.counted))
+    indexed-recounted c.leave_at.new.cports c.self.inside.ends c.self.inside.numbers
+    c.self.inside.known c.leave_at.new.links.items c.if-not-self.true
+    (c.leave_at.ensures.counted c.self.invariant.counted)
 
 pub invariant_of-self-in-Some : goal.invariant_of-self-in-Some
 invariant_of-self-in-Some c =
@@ -28,11 +26,11 @@ invariant_of-self-in-Some c =
     let e : ms ≡ without (is_link c.args.intf c.args.cport) ls = left
     ∙ end-leaves c.self.inside.ends c.args.intf c.args.cport c.in-Some.number ls c.number.result low
     rises named (c.number.ensures ls named) c.in-Some.is in
-    indexed-left c.leave.new.cports c.leave.new.ends c.remove-in-Some.new.self c.self.inside.known
+    indexed-left c.leave.new.cports c.leave.new.ends c.remove.new.self c.self.inside.known
     (is_link c.args.intf c.args.cport) ls ms e rises
     (c.leave.ensures.counted rises c.self.invariant.counted) (c.leave.ensures.named rises named)
     (groups-one c.args.intf c.args.cport c.in-Some.number c.self.inside.numbers
-    c.remove-in-Some.new.self ls ms left e c.remove-in-Some.ensures (c.self.invariant.grouped says))
+    c.remove.new.self ls ms left e c.remove.ensures (c.self.invariant.grouped says))
 
 pub returns-in-Some : goal.returns-in-Some
 returns-in-Some c =

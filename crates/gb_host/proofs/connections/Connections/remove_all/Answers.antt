@@ -1,17 +1,15 @@
--- The connections with the numbers of the interface leave, and what is kept is right for the others.
-use Rattle.std.proofs.Common.{◌≡◌, ◌==◌, ◌∙◌, subst}
+-- The connections with the interface's numbers leave, and what is kept is right for the others.
+use Rattle.std.proofs.Common.{◌≡◌, ◌==◌, ◌∙◌}
 use Rattle.gb_host.proofs.Grouped.{groups-all}
 use Rattle.gb_host.proofs.Indexed.{indexed-left, indexed-recounted}
-use Rattle.gb_host.specs.Counts.{AreCounted}
 use Rattle.gb_machine.specs.Lists.{without}
 use Rattle.gb_host.proofs.connections.Connections.remove_all.Goals as goal
 
 pub invariant_of-self : goal.invariant_of-self
 invariant_of-self c =
-    indexed-recounted c.recount.new.self c.self.inside.ends c.self.inside.numbers
-    c.self.inside.known c.remove_all.new.self.items c.if-not-self.true
-    (subst (AreCounted c.recount.new.self) c.items.ensures
-    (c.recount.ensures c.self.inside.links.items c.self.invariant.counted))
+    indexed-recounted c.leave_of.new.cports c.self.inside.ends c.self.inside.numbers
+    c.self.inside.known c.leave_of.new.links.items c.if-not-self.true
+    (c.leave_of.ensures.counted c.self.invariant.counted)
 
 pub invariant_of-self-2 : goal.invariant_of-self-2
 invariant_of-self-2 c =

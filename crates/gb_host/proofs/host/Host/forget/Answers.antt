@@ -7,5 +7,6 @@ use Rattle.gb_host.proofs.host.Host.forget.Goals as goal
 pub loop-intf-preserved : goal.loop-intf-preserved
 loop-intf-preserved c =
     one-gone c.args.intfs.now c.loop-intf.intf-index c.loop-intf-test.true
-    (host_of c.loop-intf.self) _ _ _ c.remove.ensures c.remove_all.ensures c.free.ensures
+    (host_of c.loop-intf.self) _ _ _ c.remove.ensures c.remove_all.ensures.left
+    c.remove_all.ensures.ids
     ∙ c.loop-intf.invariant

@@ -1,7 +1,7 @@
 -- The ids with the numbers not looked at yet are freed after those of the others.
 use Rattle.std.proofs.Common.{◌≡◌, drop}
 use Rattle.gb_host.proofs.ByNumber.{numbers_forgotten}
-use Rattle.gb_host.proofs.removing.free.Given as goal
+use Rattle.gb_host.proofs.connections.free.Given as goal
 
 abbrev pub invariant-loop-number : goal.invariant-loop-number
 invariant-loop-number l =
