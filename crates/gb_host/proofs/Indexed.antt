@@ -25,7 +25,7 @@ ap-stays (link.Credits total) l = refl
 ap-stays (link.Fewer taken) l = refl
 ap-stays (link.Awaits w) l = refl
 
-number-stays : (c : LinkChange) (l : Link) → (link_changed c l).connection ≡ l.connection
+pub number-stays : (c : LinkChange) (l : Link) → (link_changed c l).connection ≡ l.connection
 number-stays (link.State to) l = refl
 number-stays (link.Credits total) l = refl
 number-stays (link.Fewer taken) l = refl

@@ -12,11 +12,13 @@ pub mod Indexed
 pub mod Known
 pub mod Leaving
 pub mod LinksByNumber
+pub mod LinksThere
 pub mod Manifests
 pub mod Modules
 pub mod Named
 pub mod Numbers
 pub mod Ordering
+pub mod PlaceNumbers
 pub mod Restoring
 pub mod Rising
 pub mod Sought

@@ -7,6 +7,8 @@ use Rattle.std.specs.List.{find, position_from}
 use Rattle.std.specs.Option.{option_map}
 use Rattle.gb_base.specs.declared.interface.Link.{Link}
 use Rattle.gb_host.specs.Indexes.{Rises}
+use Rattle.gb_machine.proofs.Positions.{none-stands, standing}
+use Rattle.gb_machine.specs.Lists.{at_first}
 use Rattle.gb_host.specs.Named.{end_number}
 
 -- a number that equals another
@@ -45,19 +47,7 @@ same-end a b i c low least =
     by false true false e f g = refl
     by false false v e f g = refl
 
--- ---- the place of the first at a far end
-
--- there is none
-pub no-place : (q : Link → Bool) (ls : List Link) (n : ℕ) → number_of (find q ls) ≡ None
-    → position_from q n ls ≡ None
-no-place q [] n h = refl
-no-place q (l ∷ ls) n h = by (q l) h (no-place q ls (n + 1))
-  where
-    by : (b : Bool) → number_of (cond b (Some l) (find q ls)) ≡ None
-        → (number_of (find q ls) ≡ None → position_from q (n + 1) ls ≡ None)
-        → cond b (Some n) (position_from q (n + 1) ls) ≡ None
-    by true h later = absurd cc
-    by false h later = later h
+-- ---- the first at a far end, by its number
 
 -- the first is a member
 member : (q : Link → Bool) (ls : List Link) (k : ℕ) → number_of (find q ls) ≡ Some k
@@ -74,7 +64,7 @@ member q (l ∷ ls) k h = by (q l) h (member q ls k)
         let r = later h in let w = r.1 in (suc r.0, omega (arith, w), r.2)
 
 -- where numbers rise, it is the place of its number
-pub same-place : (q : Link → Bool) (ls : List Link) (n k : ℕ) → Rises ls
+same-place : (q : Link → Bool) (ls : List Link) (n k : ℕ) → Rises ls
     → number_of (find q ls) ≡ Some k
     → position_from (λ l. l.connection == k) n ls ≡ position_from q n ls
 same-place q [] n k rises h = absurd cc
@@ -101,3 +91,48 @@ same-place q (l ∷ ls) n k rises h =
         let test : (l.connection == k) ≡ false = grind (arith, nat_tests) in
         ap (λ t. cond t (Some n) (position_from (λ (m : Link). m.connection == k) (n + 1) ls)) test
         ∙ later h
+
+-- what two tests find at one place
+same-first : (p q : Link → Bool) (ls : List Link) → position_from p 0 ls ≡ position_from q 0 ls
+    → (find p ls ≡ find q ls) × ((f : Link → Link) → at_first p f ls ≡ at_first q f ls)
+same-first p q [] same = (refl, λ f. refl)
+same-first p q (l ∷ ls) same = by (position_from q 0 (l ∷ ls)) refl
+  where
+    by : (o : Option ℕ) → position_from q 0 (l ∷ ls) ≡ o
+        → (find p (l ∷ ls) ≡ find q (l ∷ ls))
+        × ((f : Link → Link) → at_first p f (l ∷ ls) ≡ at_first q f (l ∷ ls))
+    by None e =
+        let one = none-stands p (l ∷ ls) (same ∙ e) in
+        let two = none-stands q (l ∷ ls) e in
+        (one.0 ∙ sym two.0, λ f. one.1 f ∙ sym (two.1 f))
+    by (Some i) e =
+        let one = standing p (l ∷ ls) i (same ∙ e) in
+        let two = standing q (l ∷ ls) i e in
+        (one.found l ∙ sym (two.found l), λ f. one.changed f l ∙ sym (two.changed f l))
+
+-- where numbers rise, it is found by its number
+pub found-numbered : (q : Link → Bool) (ls : List Link) (o : Option ℕ) (k : ℕ) → Rises ls
+    → o ≡ number_of (find q ls) → o ≡ Some k → find (λ l. l.connection == k) ls ≡ find q ls
+found-numbered q ls o k rises is was =
+    (same-first (λ (l : Link). l.connection == k) q ls (same-place q ls 0 k rises (sym is ∙ was))).0
+
+-- and changed by its number
+pub changed-numbered : (q : Link → Bool) (f : Link → Link) (ls : List Link) (o : Option ℕ) (k : ℕ)
+    → Rises ls → o ≡ number_of (find q ls) → o ≡ Some k
+    → at_first (λ l. l.connection == k) f ls ≡ at_first q f ls
+changed-numbered q f ls o k rises is was =
+    (same-first (λ (l : Link). l.connection == k) q ls (same-place q ls 0 k rises (sym is
+    ∙ was))).1 f
+
+-- there is none to be changed
+pub changed-nowhere : (q : Link → Bool) (f : Link → Link) (ls : List Link) (o : Option ℕ)
+    → o ≡ number_of (find q ls) → o ≡ None → ls ≡ at_first q f ls
+changed-nowhere q f [] o is was = refl
+changed-nowhere q f (l ∷ ls) o is was =
+    by (q l) (sym is ∙ was) (λ none. changed-nowhere q f ls None (sym none) refl)
+  where
+    by : (b : Bool) → number_of (cond b (Some l) (find q ls)) ≡ None
+        → (number_of (find q ls) ≡ None → ls ≡ at_first q f ls)
+        → l ∷ ls ≡ cond b (f l ∷ ls) (l ∷ at_first q f ls)
+    by true none later = absurd cc
+    by false none later = ap (λ ms. l ∷ ms) (later none)

@@ -1,5 +1,5 @@
 -- What is kept to look connections up.
-use Rattle.std.specs.Prelude.{◌≡◌, ◌==◌, ◌<◌, ◌≤◌, ℕ, Bool, true, None, List, get_or, length}
+use Rattle.std.specs.Prelude.{◌≡◌, ◌==◌, ◌<◌, ℕ, Bool, true, List}
 use Rattle.std.specs.List.{AllPairs}
 use Rattle.gb_base.specs.declared.interface.Link.{Link}
 use Rattle.gb_groups.specs.Groups.{numbers_in}
@@ -12,15 +12,6 @@ use Rattle.gb_host.specs.declared.ends.Ends.{Ends}
 -- The numbers of connections rise.
 abbrev pub Rises : List Link → Type 0
 Rises links = AllPairs (λ l m. l.connection < m.connection) links
-
--- No connection before this place waits.
-abbrev pub AreIdle : ℕ → List Link → Type 0
-AreIdle place links = (i : ℕ) (d : Link) → i < place → (get_or links i d).awaits ≡ None
-
--- None before a place waits, and the place is no further than behind the last.
-pub record IsIdleTo (place : ℕ) (links : List Link) : Type 0 where
-  pub within : place ≤ length links
-  pub idle : AreIdle place links
 
 -- The numbers of the connections of each interface are in its group, in order.
 abbrev pub AreGrouped : List (List ℕ) → List Link → Type 0

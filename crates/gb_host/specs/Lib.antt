@@ -8,7 +8,9 @@ pub mod Known
 pub mod LinkList
 pub mod Named
 pub mod Numbers
+pub mod Places
 pub mod Refusing
 pub mod Serving
+pub mod Sought
 pub mod Stands
 pub mod Turning

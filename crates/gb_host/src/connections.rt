@@ -70,8 +70,11 @@ impl Connections {
     pub fn at(&self, intf: u8, cport: u16) -> Option<Link>
         ensures { result ≡ find (is_link intf cport) self.now.items }
     {
-        let place = self.place(intf, cport)?;
-        Some(self.links.get(place))
+        if !self.known {
+            return self.links.at(intf, cport);
+        }
+        let number = self.ends.number(intf, cport)?;
+        self.links.of(number)
     }
 
     /// The connection with a number.
@@ -79,11 +82,7 @@ impl Connections {
     pub fn of(&self, connection: u64) -> Option<Link>
         ensures { result ≡ find (λ l. l.connection == connection) self.now.items }
     {
-        if self.known {
-            self.links.of_rising(connection)
-        } else {
-            self.links.of(connection)
-        }
+        self.links.of(connection)
     }
 
     /// The connections of an interface in order.
@@ -226,23 +225,13 @@ impl Connections {
         ensures { self.new.items
             ≡ at_first (is_link intf cport) (link_changed change) self.old.items }
     {
-        if let Some(place) = self.place(intf, cport) {
-            let link = change.of(self.links.get(place));
-            self.links.put(place, link);
-        }
-    }
-
-    /// Where the connection to a CPort of an interface stands.
-    #[inline]
-    fn place(&self, intf: u8, cport: u16) -> Option<usize>
-        ensures first { result ≡ position_from (is_link intf cport) 0 self.now.items }
-        ensures within { IfSome result (λ i. i < length self.now.items) }
-    {
         if !self.known {
-            return self.links.place(intf, cport);
+            self.links.change_at(intf, cport, change);
+            return;
         }
-        let number = self.ends.number(intf, cport)?;
-        self.links.place_rising(number)
+        if let Some(number) = self.ends.number(intf, cport) {
+            self.links.change_of(number, change);
+        }
     }
 }
 
@@ -321,7 +310,7 @@ fn numbered(alloc: Global, links: &Links, numbers: &[u64]) -> Result<Sequence<Li
 {
     let mut found = Sequence::new(alloc);
     for number in numbers {
-        if let Some(link) = links.of_rising(*number) {
+        if let Some(link) = links.of(*number) {
             found.push(link)?;
         }
     }

@@ -6,8 +6,10 @@ ghost use Rattle.std.specs.List.{list_any};
 ghost use Rattle.gb_base.specs.declared.interface.Link.{Link};
 ghost use Rattle.gb_host.specs.Counts.{AreCounted};
 ghost use Rattle.gb_machine.specs.Host.{is_link};
+ghost use Rattle.gb_host.specs.Places.{there_in};
 ghost use Rattle.gb_machine.specs.Lists.{first_free, without};
 
+use crate::places::Held;
 use gb_base::{Link, OutOfMemory};
 use std::alloc::Global;
 

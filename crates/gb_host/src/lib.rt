@@ -16,6 +16,7 @@ mod images;
 mod interfaces;
 mod links;
 mod payloads;
+mod places;
 mod refusing;
 mod removing;
 mod replies;

@@ -8,10 +8,10 @@ use Rattle.gb_host.proofs.connections.numbered.Goals.{in-Some+in_ok-push, in_def
 pub loop-number-preserved : goal.loop-number-preserved
 loop-number-preserved c = λ test rises e.
     let front = c.loop-number.found in
-    let looked = c.of_rising.ensures rises in
+    let looked = c.of.ensures in
     next-found test c.args.links.now.items c.args.numbers.now c.loop-number.number-index front
-    c.match-of_rising.found rises e c.loop-number-test.true (c.loop-number.invariant test rises e)
-    (elim c.match-of_rising.branch [
+    c.match-of.found rises e c.loop-number-test.true (c.loop-number.invariant test rises e)
+    (elim c.match-of.branch [
       | in-Some+in_ok-push w ↦
           w.found-is ∙ w.in_ok-push.ensures.ok
           ∙ ap (λ o. front ++ option_to_list o) (sym w.in-Some.is ∙ looked)

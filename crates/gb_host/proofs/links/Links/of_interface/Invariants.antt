@@ -1,10 +1,11 @@
--- Those of the interface among the connections not looked at yet come after those that were.
+-- Those of the interface among the places not looked at yet come after those that were.
 use Rattle.std.proofs.Common.{◌≡◌, ◌==◌, ◌++◌, drop}
 use Rattle.std.specs.List.{filter}
 use Rattle.gb_base.specs.declared.interface.Link.{Link}
+use Rattle.gb_host.specs.Places.{there_in}
 use Rattle.gb_host.proofs.links.Links.of_interface.Given as goal
 
-abbrev pub invariant-loop-link : goal.invariant-loop-link
-invariant-loop-link l =
-    l.links ++ filter (λ (m : Link). m.intf == l.intf) (drop l.link-index l.link-items)
-    ≡ filter (λ (m : Link). m.intf == l.intf) l.link-items
+abbrev pub invariant-loop-held : goal.invariant-loop-held
+invariant-loop-held l =
+    l.links ++ filter (λ (m : Link). m.intf == l.intf) (there_in (drop l.held-index l.held-items))
+    ≡ filter (λ (m : Link). m.intf == l.intf) (there_in l.held-items)
