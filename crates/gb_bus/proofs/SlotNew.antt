@@ -1,11 +1,10 @@
 -- What is kept after a slot comes, and the counts with it.
 use Rattle.std.proofs.Common.{◌≡◌, ℕ, ◌+◌, Bool, true, false, cond, [], Option, Some, None}
-use Rattle.std.proofs.Common.{Result, Ok, Err, eqb, slice_index_or}
+use Rattle.std.proofs.Common.{eqb, slice_index_or}
 use Rattle.std.proofs.Common.{refl, sym, ap, ◌∙◌, arith}
 use Rattle.std.specs.Option.{is_none, option_and_then}
 use Rattle.std.specs.BTreeMap.{is_at}
 use Rattle.std.specs.List.{list_any}
-use Rattle.std.specs.Result.{OnErr, OnOk, is_err}
 use Rattle.slab.specs.Slab as slab
 use Rattle.slab.specs.Slab.{Slab, Updates}
 use Rattle.gb_bus.proofs.SlotMaps.{FindsAt, added, added-placed, each-number, found, found-at}
@@ -146,13 +145,3 @@ pub placed : (oneway : Bool) (slot : Slot) (old new : SlotsKept) → MakesAs one
     → oneway ≡ false → key_at new slot.number ≡ Some old.next
 placed false slot old new made e = made.placed
 placed true slot old new made e = absurd (cc e)
-
--- ---- results
-
-pub at-ok : {A E P : Type 0} (r : Result A E) → is_err r ≡ false → OnOk r P → P
-at-ok (Ok x) e p = p
-at-ok (Err x) e p = absurd (cc e)
-
-pub at-err : {A E P : Type 0} (r : Result A E) → is_err r ≡ true → OnErr r P → P
-at-err (Ok x) e p = absurd (cc e)
-at-err (Err x) e p = p
