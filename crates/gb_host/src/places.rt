@@ -252,15 +252,18 @@ fn place_of(places: &[Held], rising: bool, connection: u64) -> Option<usize>
     Some(place)
 }
 
-/// The place with a number, where the numbers of all rise. Few are looked at, and one alone where no
-/// number from the first to it is missing.
+/// The place with a number, where the numbers of all rise. Few are looked at, and one or two alone
+/// where no number from the first to it is missing, or from it to the last.
 #[inline]
 fn place_rising(places: &[Held], connection: u64) -> Option<usize>
     ensures first { AllRise places.now → result
         ≡ position_from (λ h. h.link.connection == connection) 0 places.now }
     ensures within { IfSome result (λ i. i < length places.now) }
 {
-    match place_counted(places, connection) {
+    if let Some(place) = place_counted(places, connection) {
+        return Some(place);
+    }
+    match place_counted_back(places, connection) {
         Some(place) => Some(place),
         None => place_sought(places, connection),
     }
@@ -279,6 +282,26 @@ fn place_counted(places: &[Held], connection: u64) -> Option<usize>
     }
     let place = connection.saturating_sub(places[0].link.connection) as usize;
     if place < places.len() && places[place].link.connection == connection {
+        return Some(place);
+    }
+    None
+}
+
+/// The place with a number, where the numbers of all rise and none is missing from it to the last.
+/// Else None.
+#[inline]
+fn place_counted_back(places: &[Held], connection: u64) -> Option<usize>
+    ensures first { AllRise places.now → IfSome result (λ i.
+        position_from (λ h. h.link.connection == connection) 0 places.now ≡ Some i) }
+    ensures within { IfSome result (λ i. i < length places.now) }
+{
+    if places.is_empty() {
+        return None;
+    }
+    let last = places.len() - 1;
+    let back = places[last].link.connection.saturating_sub(connection) as usize;
+    let place = last.saturating_sub(back);
+    if places[place].link.connection == connection {
         return Some(place);
     }
     None
