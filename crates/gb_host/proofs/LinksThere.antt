@@ -2,7 +2,7 @@
 use Rattle.std.proofs.Common.{◌≡◌, ◌≢◌, ◌==◌, ◌<◌, ◌≤◌, ◌+◌, ◌-◌, ◌&&◌, ℕ, zero, suc, Bool, true}
 use Rattle.std.proofs.Common.{false}
 use Rattle.std.proofs.Common.{cond, if◌then◌else◌, Option, None, Some, List, [], ◌∷◌, ◌++◌, length}
-use Rattle.std.proofs.Common.{take, not}
+use Rattle.std.proofs.Common.{take}
 use Rattle.std.proofs.Common.{get_or, set, refl, sym, ap, ◌∙◌, arith, subst}
 use Rattle.std.proofs.lemmas.Bool.Decides.{nat_tests}
 use Rattle.std.proofs.lemmas.List.{append-nil, get_or-set_other, get_or-set_same}
@@ -18,7 +18,7 @@ use Rattle.gb_host.specs.Indexes.{Rises}
 use Rattle.gb_host.specs.Places.{AllRise, ArePlaced, WaitWithin, has, there_in}
 use Rattle.gb_host.specs.declared.places.Held.{Held}
 use Rattle.gb_machine.proofs.Positions.{none-stands, standing}
-use Rattle.gb_machine.specs.Lists.{at_first, without}
+use Rattle.gb_machine.specs.Lists.{at_first}
 
 -- ---- the list of those that are there
 
@@ -351,32 +351,6 @@ pub rises-filter : (p : Held → Bool) (hs ks : List Held) → ks ≡ filter p h
     → AllRise ks
 rises-filter p hs ks e rises = subst AllRise (sym e) (AllPairs-filter (λ (h g : Held).
     h.link.connection < g.link.connection) p hs rises)
-
--- those that pass a test leave, with their places
-pub there-left : (test : Link → Bool) (hs : List Held)
-    → there_in (filter (λ h. not (has test h)) hs) ≡ without test (there_in hs)
-there-left test [] = refl
-there-left test (h ∷ hs) = by h.there (test h.link) refl refl (there-left test hs)
-  where
-    rest : List Held
-    rest = filter (λ (g : Held). not (has test g)) hs
-
-    by : (b t : Bool) → h.there ≡ b → test h.link ≡ t
-        → there_in rest ≡ without test (there_in hs)
-        → there_in (cond (not (b && t)) (h ∷ rest) rest)
-        ≡ without test (cond b (h.link ∷ there_in hs) (there_in hs))
-    by true true k e later =
-        later ∙ sym (ap (λ t. cond (not t) (h.link ∷ without test (there_in hs)) (without test
-        (there_in hs))) e)
-    by true false k e later =
-        ap (λ b. cond b (h.link ∷ there_in rest) (there_in rest)) k
-        ∙ ap (λ ls. h.link ∷ ls) later
-        ∙ sym (ap (λ t. cond (not t) (h.link ∷ without test (there_in hs)) (without test (there_in
-        hs))) e)
-    by false true k e later =
-        ap (λ b. cond b (h.link ∷ there_in rest) (there_in rest)) k ∙ later
-    by false false k e later =
-        ap (λ b. cond b (h.link ∷ there_in rest) (there_in rest)) k ∙ later
 
 -- the numbers of those that are there rise to that of one more
 pub rises-more : (hs gs : List Held) (ls : List Link) (l : Link) → hs ≡ gs → there_in gs ≡ ls

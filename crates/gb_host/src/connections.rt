@@ -1,8 +1,8 @@
 //! The connections to modules, with what is kept to look them up.
 
-ghost use Rattle.std.specs.Prelude.{◌≡◌, ◌==◌, ◌<◌, ◌∷◌, [], ◌++◌, None, IfOk, IfSome, OnOk};
-ghost use Rattle.std.specs.Prelude.{Bool, List, find, length, map};
-ghost use Rattle.std.specs.List.{filter, list_any, position_from};
+ghost use Rattle.std.specs.Prelude.{◌≡◌, ◌==◌, ◌<◌, ◌∷◌, [], ◌++◌, None, IfOk, OnOk};
+ghost use Rattle.std.specs.Prelude.{Bool, List, find, map};
+ghost use Rattle.std.specs.List.{filter, list_any};
 ghost use Rattle.gb_base.specs.declared.interface.Link.{Link};
 ghost use Rattle.gb_host.specs.Counts.{AreCounted};
 ghost use Rattle.gb_host.specs.Indexes.{Rises};
@@ -66,7 +66,7 @@ impl Connections {
     }
 
     /// The connection to a CPort of an interface.
-    #[inline]
+    #[inline(always)]
     pub fn at(&self, intf: u8, cport: u16) -> Option<Link>
         ensures { result ≡ find (is_link intf cport) self.now.items }
     {

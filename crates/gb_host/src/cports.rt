@@ -1,15 +1,12 @@
 //! The CPorts of the application processor that connections have.
 
 ghost use Rattle.std.specs.Prelude.{◌≡◌, ◌==◌, ◌<◌, ◌≤◌, ◌∷◌, [], ◌++◌, ◌^◌, ℕ, IfOk, List};
-ghost use Rattle.std.specs.Prelude.{false, get_or, length, true};
+ghost use Rattle.std.specs.Prelude.{get_or, length};
 ghost use Rattle.std.specs.List.{list_any};
 ghost use Rattle.gb_base.specs.declared.interface.Link.{Link};
 ghost use Rattle.gb_host.specs.Counts.{AreCounted};
-ghost use Rattle.gb_machine.specs.Host.{is_link};
-ghost use Rattle.gb_host.specs.Places.{there_in};
-ghost use Rattle.gb_machine.specs.Lists.{first_free, without};
+ghost use Rattle.gb_machine.specs.Lists.{first_free};
 
-use crate::places::Held;
 use gb_base::{Link, OutOfMemory};
 use std::alloc::Global;
 

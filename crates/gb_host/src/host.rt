@@ -60,6 +60,7 @@ impl Host {
 
     /// The state of the connection to a module with a number, None exactly where there is none. It
     /// takes no memory.
+    #[inline]
     pub fn state(&self, connection: u64) -> Option<ConnState>
         ensures step { (h : machine.Host) → Stands self.now h
             → result ≡ option_map (λ l. l.state) (link_of connection h) }

@@ -4,7 +4,6 @@ ghost use Rattle.std.specs.Prelude.{◌≡◌, ◌==◌, ◌<◌, ◌∷◌, [],
 ghost use Rattle.std.specs.Prelude.{IfOk, OnOk, find, length};
 ghost use Rattle.std.specs.List.{filter};
 ghost use Rattle.gb_host.specs.Indexes.{Rises};
-ghost use Rattle.gb_host.specs.Places.{there_in};
 ghost use Rattle.gb_machine.specs.Host.{is_link};
 ghost use Rattle.gb_machine.specs.Lists.{at_first, without};
 ghost use Rattle.gb_machine.specs.Waits.{link_waits};
@@ -113,7 +112,7 @@ impl Links {
         self.first(Sought::End(intf, cport))
     }
 
-    /// The connections of an interface, in order.
+    /// The connections of an interface, in order. All are looked at.
     pub fn of_interface(&self, alloc: Global, intf: u8) -> Result<Sequence<Link>, OutOfMemory>
         ensures { IfOk result (λ ls. ls ≡ filter (λ l. l.intf == intf) self.now.items) }
     {
@@ -174,6 +173,7 @@ impl Links {
     }
 
     /// The connection to a CPort of an interface is changed.
+    #[inline(never)]
     pub fn change_at(&mut self, intf: u8, cport: u16, change: LinkChange)
         ensures { self.new.items ≡ at_first (is_link intf cport)
             (link_changed change) self.old.items }
@@ -210,7 +210,7 @@ impl Links {
     }
 
     /// The first of the connections that are sought.
-    #[inline]
+    #[inline(always)]
     fn first(&self, sought: Sought) -> Option<Link>
         ensures { result ≡ find (passes sought) self.now.items }
     {
@@ -220,7 +220,7 @@ impl Links {
     }
 
     /// The first of the connections that are sought is changed.
-    #[inline]
+    #[inline(always)]
     fn change(&mut self, sought: Sought, change: LinkChange)
         ensures { self.new.items ≡ at_first (passes sought) (link_changed change) self.old.items }
     {

@@ -1,7 +1,8 @@
 //! The places that connections to modules have or had.
 
 ghost use Rattle.std.specs.Option.{is_some};
-ghost use Rattle.std.specs.Prelude.{◌≡◌, ◌==◌, ◌<◌, ◌≤◌, ◌∷◌, [], ◌++◌, ◌^◌, true, false, Bool, List};
+ghost use Rattle.std.specs.Prelude.{◌≡◌, ◌==◌, ◌<◌, ◌≤◌, ◌∷◌, [], ◌++◌, ◌^◌, true, false, Bool};
+ghost use Rattle.std.specs.Prelude.{List};
 ghost use Rattle.std.specs.Prelude.{IfSome, Some, length, set, take};
 ghost use Rattle.std.specs.List.{position_from};
 ghost use Rattle.std.specs.Vec.{vec_capacity, vec_len};
@@ -48,7 +49,7 @@ impl Sought {
     }
 
     /// Where the first of these that is there has its place.
-    #[inline]
+    #[inline(always)]
     pub fn place(self, places: &[Held], rising: bool) -> Option<usize>
         ensures first { (rising ≡ true → AllRise places.now)
             → result ≡ position_from (has (passes self)) 0 places.now }
@@ -61,6 +62,7 @@ impl Sought {
     }
 
     /// Where the first of these that is there has its place, looked for one by one.
+    #[inline(never)]
     fn walked(self, places: &[Held]) -> Option<usize>
         ensures first { result ≡ position_from (has (passes self)) 0 places.now }
         ensures within { IfSome result (λ i. i < length places.now) }
@@ -186,6 +188,7 @@ fn purpose_at(number: u64, held: Held) -> Option<Purpose>
 }
 
 /// A place is another from now on.
+#[inline(always)]
 pub fn put(places: &mut Vec<Held>, waits: Span, place: usize, held: Held) -> Span
     requires { place < length places.old.items }
     ensures put { places.new.items ≡ set places.old.items place held }
@@ -224,7 +227,8 @@ pub fn end_there(places: &[Held]) -> usize
     end
 }
 
-/// The numbers of all rise to that of a connection that is about to go to the end, where they rise.
+/// The numbers of all rise to that of a connection that is about to go to the end, where they
+/// rise.
 pub fn rises_to(places: &[Held], link: Link) -> bool
     ensures { (there : Bool) → result ≡ true → AllRise places.now
         → AllRise (places.now ++ record { link = link; there = there } ∷ []) }
@@ -236,7 +240,7 @@ pub fn rises_to(places: &[Held], link: Link) -> bool
 }
 
 /// Where the connection with a number that is there has its place.
-#[inline]
+#[inline(always)]
 fn place_of(places: &[Held], rising: bool, connection: u64) -> Option<usize>
     ensures first { (rising ≡ true → AllRise places.now) → result
         ≡ position_from (has (λ l. l.connection == connection)) 0 places.now }
@@ -253,25 +257,42 @@ fn place_of(places: &[Held], rising: bool, connection: u64) -> Option<usize>
 }
 
 /// The place with a number, where the numbers of all rise. Few are looked at, and one or two alone
-/// where no number from the first to it is missing, or from it to the last.
-#[inline]
+/// where no number is missing from the first to it, or from it to the last.
+#[inline(always)]
 fn place_rising(places: &[Held], connection: u64) -> Option<usize>
     ensures first { AllRise places.now → result
         ≡ position_from (λ h. h.link.connection == connection) 0 places.now }
     ensures within { IfSome result (λ i. i < length places.now) }
 {
-    if let Some(place) = place_counted(places, connection) {
-        return Some(place);
+    if places.is_empty() {
+        return None;
     }
+    if connection < places[0].link.connection {
+        return None;
+    }
+    match place_counted(places, connection) {
+        Some(place) => Some(place),
+        None => place_uncounted(places, connection),
+    }
+}
+
+/// The place with a number, where the numbers of all rise. One alone is looked at where no number
+/// from it to the last is missing.
+#[inline(never)]
+fn place_uncounted(places: &[Held], connection: u64) -> Option<usize>
+    ensures first { AllRise places.now → result
+        ≡ position_from (λ h. h.link.connection == connection) 0 places.now }
+    ensures within { IfSome result (λ i. i < length places.now) }
+{
     match place_counted_back(places, connection) {
         Some(place) => Some(place),
-        None => place_sought(places, connection),
+        None => place_halved(places, connection),
     }
 }
 
 /// The place with a number, where the numbers of all rise and none is missing from the first to it.
 /// Else None.
-#[inline]
+#[inline(always)]
 fn place_counted(places: &[Held], connection: u64) -> Option<usize>
     ensures first { AllRise places.now → IfSome result (λ i.
         position_from (λ h. h.link.connection == connection) 0 places.now ≡ Some i) }
@@ -305,23 +326,6 @@ fn place_counted_back(places: &[Held], connection: u64) -> Option<usize>
         return Some(place);
     }
     None
-}
-
-/// The place with a number, where the numbers of all rise. None is looked at but the first where
-/// that has a greater number.
-#[inline]
-fn place_sought(places: &[Held], connection: u64) -> Option<usize>
-    ensures first { AllRise places.now → result
-        ≡ position_from (λ h. h.link.connection == connection) 0 places.now }
-    ensures within { IfSome result (λ i. i < length places.now) }
-{
-    if places.is_empty() {
-        return None;
-    }
-    if connection < places[0].link.connection {
-        return None;
-    }
-    place_halved(places, connection)
 }
 
 /// The place with a number, where the numbers of all rise, by halving.
