@@ -81,8 +81,8 @@ impl Numbered {
     }
 
     /// The connection that has an end, and the side at which the end stands, where it is wired and
-    /// stands at the number that its CPort of the application processor has too. So it does where
-    /// none that was made before it is gone. Nothing is said at None.
+    /// stands at the number that its CPort of the application processor has too. So it does in a run
+    /// where none that was made before it is gone. Nothing is said at None.
     #[inline]
     pub fn counted(&self, at: End) -> Option<(u64, Side)>
         ensures { IfSome result (λ found. HasSide self.now.map found.0 at found.1) }

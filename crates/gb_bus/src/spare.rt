@@ -16,7 +16,7 @@ pub struct Spare {
 }
 
 impl Spare {
-    /// None was there. It takes no memory yet.
+    /// None is kept. It takes no memory yet.
     pub fn new(alloc: Global) -> Spare {
         Spare {
             connections: Vec::new(alloc),

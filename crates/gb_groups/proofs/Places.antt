@@ -1,7 +1,7 @@
 -- One list of groups in place of another.
-use Rattle.std.proofs.Common.{◌≡◌, ◌≢◌, ◌<◌, ℕ, ◌⊎◌, inl, inr, List, [], ◌∷◌, ◌++◌, get_or}
-use Rattle.std.proofs.Common.{length, map, nat_cmp, set, refl, sym, ap, subst, ◌∙◌, arith, zero}
-use Rattle.std.proofs.Common.{suc, Err, Ok, OnErr, Result}
+use Rattle.std.proofs.Common.{◌≡◌, ◌≢◌, ◌<◌, ℕ, ◌⊎◌, inl, inr, List, [], get_or, length, map}
+use Rattle.std.proofs.Common.{nat_cmp, set, refl, sym, ap, subst, ◌∙◌, arith, Err, Ok, OnErr}
+use Rattle.std.proofs.Common.{Result}
 use Rattle.std.proofs.lemmas.Bool.{cases_eq}
 use Rattle.std.proofs.lemmas.List.{get_or-map, get_or-set_other, get_or-set_same, length-map}
 use Rattle.std.proofs.lemmas.List.{length-set, map-set, set-get_or}
@@ -92,15 +92,6 @@ on-err (Ok x) h = tt
 on-err (Err e) h = h
 
 -- ---- no numbers at first
-
--- one list more without a number
-pub none-more : (lists : List (Vec ℕ)) (v : Vec ℕ) (g : ℕ) → v.items ≡ []
-    → ((j : ℕ) → numbers_in (numbers_of lists) j ≡ [])
-    → numbers_in (numbers_of (lists ++ v ∷ [])) g ≡ []
-none-more [] v zero e none = e
-none-more [] v (suc g) e none = refl
-none-more (l ∷ lists) v zero e none = none 0
-none-more (l ∷ lists) v (suc g) e none = none-more lists v g e (λ j. none (suc j))
 
 -- groups without a number rise
 pub none-rise : (lists : List (Vec ℕ)) → length lists ≡ 256

@@ -98,7 +98,7 @@ fn insert_in_order(list: &mut Vec<u64>, number: u64) -> Result<(), OutOfMemory>
     Ok(())
 }
 
-/// Whether a number is greater than all of a list that rises.
+/// Whether a number is greater than all of a list that rises. Nothing is said at false.
 #[inline]
 fn is_greater(list: &[u64], number: u64) -> bool
     requires { IsStrictlySortedBy nat_cmp list.now }
