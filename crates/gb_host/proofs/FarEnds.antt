@@ -8,10 +8,10 @@ use Rattle.std.specs.List.{filter}
 use Rattle.std.specs.Option.{is_some, option_to_list}
 use Rattle.std.specs.Result.{OnOk, is_ok}
 use Rattle.gb_base.specs.declared.interface.Link.{Link}
-use Rattle.gb_host.proofs.Idle.{none-awaited}
 use Rattle.gb_host.proofs.Named.{equals, same-end}
 use Rattle.gb_host.proofs.Numbers.{filter-same, numbers-more, numbers-same}
 use Rattle.gb_host.proofs.Rising.{and-both}
+use Rattle.gb_host.proofs.Unawaited.{none-awaited}
 use Rattle.gb_host.specs.Named.{AreNamed, end_number}
 use Rattle.gb_host.specs.Numbers.{numbers_where}
 use Rattle.gb_host.specs.declared.ends.Ends.{Ends}

@@ -11,24 +11,25 @@ use Rattle.gb_host.proofs.Named.{alike, number_of}
 use Rattle.gb_host.proofs.Numbers.{alone, has_number, none-numbers, one-number}
 use Rattle.gb_host.proofs.Numbers.{first-leaves, only-leaves}
 use Rattle.gb_host.proofs.Rising.{rises-without}
+use Rattle.gb_host.specs.Awaited.{AreAwaited}
 use Rattle.gb_host.specs.Changes.{IsTaken}
 use Rattle.gb_host.specs.Counts.{AreCounted}
 use Rattle.gb_host.specs.Indexes.{Rises}
 use Rattle.gb_host.specs.Named.{AreNamed, end_number}
 use Rattle.gb_host.specs.Numbers.{numbers_where}
+use Rattle.gb_host.specs.declared.awaited.Awaited.{Awaited}
 use Rattle.gb_host.specs.declared.cports.Cports.{Cports}
 use Rattle.gb_host.specs.declared.ends.Ends.{Ends}
 use Rattle.gb_machine.specs.Host.{is_link}
 use Rattle.gb_machine.specs.Lists.{without}
 
--- its CPort has a connection fewer
-pub counted-left : (x y : Cports) (ls ms : List Link) (l : Link) → IsTaken l ls ms
-    → ((front behind : List Link) → AreCounted x (front ++ l ∷ behind)
-    → AreCounted y (front ++ behind))
-    → AreCounted x ls → AreCounted y ms
-counted-left x y ls ms l taken leaves counted =
-    subst (AreCounted y) (sym taken.new_is)
-    (leaves taken.front taken.behind (subst (AreCounted x) taken.old_is counted))
+-- what is kept of those with it becomes what is kept of those without it
+pub kept-left : (Kept Left : List Link → Type 0) (ls ms : List Link) (l : Link) → IsTaken l ls ms
+    → ((front behind : List Link) → Kept (front ++ l ∷ behind) → Left (front ++ behind))
+    → Kept ls → Left ms
+kept-left Kept Left ls ms l taken leaves kept =
+    subst Left (sym taken.new_is)
+    (leaves taken.front taken.behind (subst Kept taken.old_is kept))
 
 -- its far end has none any more
 pub named-left : (x y : Ends) (ls ms : List Link) (l : Link) → l.cport < 65536 → IsTaken l ls ms
@@ -71,49 +72,55 @@ end-stays x i c ls o low named e none =
 -- ---- those with some numbers, one after another
 
 -- the first ones are gone
-pub record AreGoing (cports cports' : Cports) (ends ends' : Ends) (numbers rest : List ℕ)
-    (ls ms : List Link) : Type 0 where
+pub record AreGoing (cports cports' : Cports) (ends ends' : Ends) (awaited awaited' : Awaited)
+    (numbers rest : List ℕ) (ls ms : List Link) : Type 0 where
   pub rises : Rises ms
   pub left : (test : Link → Bool) → numbers ≡ numbers_where test ls
       → (numbers_where test ms ≡ rest) × (without test ms ≡ without test ls)
   pub counted : AreCounted cports ls → AreCounted cports' ms
   pub named : AreNamed ends ls → AreNamed ends' ms
+  pub waiting : AreAwaited awaited ls → AreAwaited awaited' ms
 
 -- at first none is
-pub going-all : (cports : Cports) (ends : Ends) (numbers : List ℕ) (ls : List Link) → Rises ls
-    → AreGoing cports cports ends ends numbers numbers ls ls
-going-all cports ends numbers ls rises = record {
+pub going-all : (cports : Cports) (ends : Ends) (awaited : Awaited) (numbers : List ℕ)
+    (ls : List Link) → Rises ls
+    → AreGoing cports cports ends ends awaited awaited numbers numbers ls ls
+going-all cports ends awaited numbers ls rises = record {
   rises = rises;
   left = λ test e. (sym e, refl);
   counted = λ counted. counted;
   named = λ named. named;
+  waiting = λ waiting. waiting;
 }
 
 -- the next leaves
-pub going-next : (w x y : Cports) (s t u : Ends) (ns : List ℕ) (n : ℕ) (ls ms ks : List Link)
+pub going-next : (w x y : Cports) (s t u : Ends) (e f g : Awaited) (ns : List ℕ) (n : ℕ)
+    (ls ms ks : List Link)
     → n < length ns → (Rises ms → ks ≡ without (has_number (get_or ns n 0)) ms)
-    → (Rises ms → AreCounted x ms → AreCounted y ks) → (Rises ms → AreNamed t ms → AreNamed u ks)
-    → AreGoing w x s t ns (drop n ns) ls ms → AreGoing w y s u ns (drop (n + 1) ns) ls ks
-going-next w x y s t u ns n ls ms ks within left counted named going = record {
+    → (AreCounted x ms → AreCounted y ks) → (AreNamed t ms → AreNamed u ks)
+    → (AreAwaited f ms → AreAwaited g ks) → AreGoing w x s t e f ns (drop n ns) ls ms
+    → AreGoing w y s u e g ns (drop (n + 1) ns) ls ks
+going-next w x y s t u e f g ns n ls ms ks within left counted named waiting going = record {
   rises = rises-without (has_number k) ms ks (left going.rises) going.rises;
-  left = λ test e.
-      let before = going.left test e in
+  left = λ test are.
+      let before = going.left test are in
       let gone = first-leaves test k ms (drop (n + 1) ns) going.rises (before.0
       ∙ drop_more ns n 0 within) in (
         ap (numbers_where test) (left going.rises) ∙ gone.0,
         ap (without test) (left going.rises) ∙ gone.1 ∙ before.1,
       );
-  counted = λ before. counted going.rises (going.counted before);
-  named = λ before. named going.rises (going.named before);
+  counted = λ before. counted (going.counted before);
+  named = λ before. named (going.named before);
+  waiting = λ before. waiting (going.waiting before);
 }
   where
     k : ℕ
     k = get_or ns n 0
 
 -- at last all are
-pub going-over : (w x : Cports) (s t : Ends) (ns : List ℕ) (n : ℕ) (ls ms : List Link)
-    → length ns ≤ n → AreGoing w x s t ns (drop n ns) ls ms → (test : Link → Bool)
-    → ns ≡ numbers_where test ls → ms ≡ without test ls
-going-over w x s t ns n ls ms over going test e =
-    let left = going.left test e in
+pub going-over : (w x : Cports) (s t : Ends) (e f : Awaited) (ns : List ℕ) (n : ℕ)
+    (ls ms : List Link) → length ns ≤ n → AreGoing w x s t e f ns (drop n ns) ls ms
+    → (test : Link → Bool) → ns ≡ numbers_where test ls → ms ≡ without test ls
+going-over w x s t e f ns n ls ms over going test are =
+    let left = going.left test are in
     sym (none-numbers test ms (left.0 ∙ drop_all n ns over)) ∙ left.1

@@ -1,3 +1,4 @@
+pub mod Awaiting
 pub mod Bridges
 pub mod ByNumber
 pub mod Changing
@@ -7,7 +8,6 @@ pub mod Free
 pub mod Fronts
 pub mod Given
 pub mod Grouped
-pub mod Idle
 pub mod Indexed
 pub mod Known
 pub mod Leaving

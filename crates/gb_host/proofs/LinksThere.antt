@@ -9,21 +9,20 @@ use Rattle.std.proofs.lemmas.List.{append-nil, get_or-set_other, get_or-set_same
 use Rattle.std.proofs.lemmas.List.{get_or_default, length-set, take_more}
 use Rattle.std.proofs.lemmas.List.Kept.{AllPairs-filter}
 use Rattle.std.specs.List.{filter, find, position_from}
-use Rattle.std.specs.Option.{is_some, option_map}
+use Rattle.std.specs.Option.{option_map}
 use Rattle.gb_base.specs.declared.interface.Link.{Link}
-use Rattle.gb_host.proofs.Idle.{within-added}
 use Rattle.gb_host.proofs.Rising.{and-both, found-passes}
 use Rattle.gb_host.specs.Changes.{IsTaken}
 use Rattle.gb_host.specs.Indexes.{Rises}
-use Rattle.gb_host.specs.Places.{AllRise, ArePlaced, WaitWithin, has, there_in}
-use Rattle.gb_host.specs.declared.places.Held.{Held}
+use Rattle.gb_host.specs.Places.{AllRise, has, there_in}
+use Rattle.gb_host.specs.declared.places.Place.{Place}
 use Rattle.gb_machine.proofs.Positions.{none-stands, standing}
 use Rattle.gb_machine.specs.Lists.{at_first}
 
 -- ---- the list of those that are there
 
 -- places behind others
-pub there-append : (hs gs : List Held) → there_in (hs ++ gs) ≡ there_in hs ++ there_in gs
+pub there-append : (hs gs : List Place) → there_in (hs ++ gs) ≡ there_in hs ++ there_in gs
 there-append [] gs = refl
 there-append (h ∷ hs) gs = by h.there (there-append hs gs)
   where
@@ -34,7 +33,7 @@ there-append (h ∷ hs) gs = by h.there (there-append hs gs)
     by false later = later
 
 -- there are no more than places
-pub there-few : (hs : List Held) → length (there_in hs) ≤ length hs
+pub there-few : (hs : List Place) → length (there_in hs) ≤ length hs
 there-few [] = omega arith
 there-few (h ∷ hs) = by h.there (there-few hs)
   where
@@ -44,7 +43,7 @@ there-few (h ∷ hs) = by h.there (there-few hs)
     by false later = omega (arith, later)
 
 -- the last place is one of a gone connection
-pub there-last : (hs : List Held) (end : ℕ) (d : Held) → 0 < end → end ≤ length hs
+pub there-last : (hs : List Place) (end : ℕ) (d : Place) → 0 < end → end ≤ length hs
     → (get_or hs (end - 1) d).there ≡ false → there_in (take (end - 1) hs) ≡ there_in (take end hs)
 there-last hs end d some here gone =
     let less : end - 1 < length hs = omega (arith, some, here) in
@@ -57,63 +56,63 @@ there-last hs end d some here gone =
     ∙ append-nil (there_in (take (end - 1) hs)))
 
 -- the places that are left behind are given up
-pub there-swept : (hs : List Held) → there_in (filter (λ h. h.there) hs) ≡ there_in hs
+pub there-swept : (hs : List Place) → there_in (filter (λ h. h.there) hs) ≡ there_in hs
 there-swept [] = refl
 there-swept (h ∷ hs) = by h.there refl (there-swept hs)
   where
-    by : (b : Bool) → h.there ≡ b → there_in (filter (λ (g : Held). g.there) hs) ≡ there_in hs
-        → there_in (cond b (h ∷ filter (λ (g : Held). g.there) hs) (filter (λ (g : Held). g.there)
+    by : (b : Bool) → h.there ≡ b → there_in (filter (λ (g : Place). g.there) hs) ≡ there_in hs
+        → there_in (cond b (h ∷ filter (λ (g : Place). g.there) hs) (filter (λ (g : Place). g.there)
         hs)) ≡ cond b (h.link ∷ there_in hs) (there_in hs)
     by true e later =
-        let kept = there_in (filter (λ (g : Held). g.there) hs) in
+        let kept = there_in (filter (λ (g : Place). g.there) hs) in
         ap (λ b. cond b (h.link ∷ kept) kept) e ∙ ap (λ ls. h.link ∷ ls) later
     by false e later = later
 
 -- ---- what is looked for
 
 -- the first that is there and passes a test
-find-there : (test : Link → Bool) (hs : List Held)
+find-there : (test : Link → Bool) (hs : List Place)
     → find test (there_in hs) ≡ option_map (λ h. h.link) (find (has test) hs)
 find-there test [] = refl
 find-there test (h ∷ hs) = by h.there (test h.link) refl (find-there test hs)
   where
     by : (b t : Bool) → test h.link ≡ t
-        → find test (there_in hs) ≡ option_map (λ (g : Held). g.link) (find (has test) hs)
+        → find test (there_in hs) ≡ option_map (λ (g : Place). g.link) (find (has test) hs)
         → find test (cond b (h.link ∷ there_in hs) (there_in hs))
-        ≡ option_map (λ (g : Held). g.link) (cond (b && t) (Some h) (find (has test) hs))
+        ≡ option_map (λ (g : Place). g.link) (cond (b && t) (Some h) (find (has test) hs))
     by true true e later = ap (λ t. cond t (Some h.link) (find test (there_in hs))) e
     by true false e later = ap (λ t. cond t (Some h.link) (find test (there_in hs))) e ∙ later
     by false true e later = later
     by false false e later = later
 
 -- it has no place
-pub found-none : (test : Link → Bool) (hs gs : List Held) (ls : List Link) (o : Option ℕ)
+pub found-none : (test : Link → Bool) (hs gs : List Place) (ls : List Link) (o : Option ℕ)
     (r : Option Link) → hs ≡ gs → there_in gs ≡ ls → o ≡ position_from (has test) 0 hs → o ≡ None
     → r ≡ None → r ≡ find test ls
 found-none test hs gs ls o r same are first was is =
     is
-    ∙ sym (ap (option_map (λ (h : Held). h.link)) (none-stands (has test) hs (sym first ∙ was)).0)
+    ∙ sym (ap (option_map (λ (h : Place). h.link)) (none-stands (has test) hs (sym first ∙ was)).0)
     ∙ sym (find-there test hs) ∙ ap (λ ks. find test (there_in ks)) same ∙ ap (find test) are
 
 -- it has a place
-pub found-one : (test : Link → Bool) (hs gs : List Held) (ls : List Link) (o : Option ℕ) (i : ℕ)
-    (d : Held) (l : Link) → hs ≡ gs → there_in gs ≡ ls → o ≡ position_from (has test) 0 hs
+pub found-one : (test : Link → Bool) (hs gs : List Place) (ls : List Link) (o : Option ℕ) (i : ℕ)
+    (d : Place) (l : Link) → hs ≡ gs → there_in gs ≡ ls → o ≡ position_from (has test) 0 hs
     → o ≡ Some i → l ≡ (get_or gs i d).link → Some l ≡ find test ls
 found-one test hs gs ls o i d l same are first was is =
     ap Some (is ∙ ap (λ ks. (get_or ks i d).link) (sym same))
-    ∙ sym (ap (option_map (λ (h : Held). h.link)) ((standing (has test) hs i (sym first
+    ∙ sym (ap (option_map (λ (h : Place). h.link)) ((standing (has test) hs i (sym first
     ∙ was)).found d))
     ∙ sym (find-there test hs) ∙ ap (λ ks. find test (there_in ks)) same ∙ ap (find test) are
 
 -- the first that is there and passes a test is changed
-change-there : (test : Link → Bool) (f : Link → Link) (hs : List Held)
+change-there : (test : Link → Bool) (f : Link → Link) (hs : List Place)
     → at_first test f (there_in hs)
     ≡ there_in (at_first (has test) (λ h. record { link = f h.link; there = true }) hs)
 change-there test f [] = refl
 change-there test f (h ∷ hs) = by h.there (test h.link) refl refl (change-there test f hs)
   where
-    rest : List Held
-    rest = at_first (has test) (λ (g : Held). record { link = f g.link; there = true }) hs
+    rest : List Place
+    rest = at_first (has test) (λ (g : Place). record { link = f g.link; there = true }) hs
 
     by : (b t : Bool) → h.there ≡ b → test h.link ≡ t
         → at_first test f (there_in hs) ≡ there_in rest
@@ -131,11 +130,11 @@ change-there test f (h ∷ hs) = by h.there (test h.link) refl refl (change-ther
         later ∙ sym (ap (λ b. cond b (h.link ∷ there_in rest) (there_in rest)) k)
 
 -- it has no place
-pub changed-none : (test : Link → Bool) (f : Link → Link) (hs gs : List Held) (ls : List Link)
+pub changed-none : (test : Link → Bool) (f : Link → Link) (hs gs : List Place) (ls : List Link)
     (o : Option ℕ) → hs ≡ gs → there_in gs ≡ ls → o ≡ position_from (has test) 0 hs → o ≡ None
     → ls ≡ at_first test f ls
 changed-none test f hs gs ls o same are first was =
-    let none = (none-stands (has test) hs (sym first ∙ was)).1 (λ (h : Held). record {
+    let none = (none-stands (has test) hs (sym first ∙ was)).1 (λ (h : Place). record {
       link = f h.link;
       there = true;
     }) in
@@ -143,8 +142,8 @@ changed-none test f hs gs ls o same are first was =
     sym all ∙ sym (ap there_in none) ∙ sym (change-there test f hs) ∙ ap (at_first test f) all
 
 -- it has a place
-pub changed-one : (test : Link → Bool) (f : Link → Link) (hs gs ks : List Held) (ls : List Link)
-    (o : Option ℕ) (i : ℕ) (d : Held) (l : Link) → hs ≡ gs → there_in gs ≡ ls
+pub changed-one : (test : Link → Bool) (f : Link → Link) (hs gs ks : List Place) (ls : List Link)
+    (o : Option ℕ) (i : ℕ) (d : Place) (l : Link) → hs ≡ gs → there_in gs ≡ ls
     → o ≡ position_from (has test) 0 hs → o ≡ Some i → l ≡ f (get_or gs i d).link
     → ks ≡ set gs i (record { link = l; there = true }) → there_in ks ≡ at_first test f ls
 changed-one test f hs gs ks ls o i d l same are first was is new =
@@ -152,14 +151,14 @@ changed-one test f hs gs ks ls o i d l same are first was is new =
     ap there_in (new
     ∙ ap (λ (m : Link). set gs i (record { link = m; there = true })) is
     ∙ sym (ap (λ ns. set ns i (record { link = f (get_or ns i d).link; there = true })) same)
-    ∙ sym ((standing (has test) hs i (sym first ∙ was)).changed (λ (h : Held). record {
+    ∙ sym ((standing (has test) hs i (sym first ∙ was)).changed (λ (h : Place). record {
       link = f h.link;
       there = true;
     }) d))
     ∙ sym (change-there test f hs) ∙ ap (at_first test f) all
 
 -- one leaves its place behind
-left-one : (hs : List Held) (i : ℕ) (d h : Held) → i < length hs → (get_or hs i d).there ≡ true
+left-one : (hs : List Place) (i : ℕ) (d h : Place) → i < length hs → (get_or hs i d).there ≡ true
     → h.there ≡ false → IsTaken (get_or hs i d).link (there_in hs) (there_in (set hs i h))
 left-one [] i d h within here gone = absurd (omega (arith, within))
 left-one (g ∷ hs) zero d h within here gone = record {
@@ -183,8 +182,8 @@ left-one (g ∷ hs) (suc i) d h within here gone =
     by false later = later
 
 -- the first that passes a test leaves its place behind
-pub taken-one : (test : Link → Bool) (hs gs ks : List Held) (ls : List Link) (o : Option ℕ) (i : ℕ)
-    (d h : Held) (l : Link) → hs ≡ gs → there_in gs ≡ ls → o ≡ position_from (has test) 0 hs
+pub taken-one : (test : Link → Bool) (hs gs ks : List Place) (ls : List Link) (o : Option ℕ) (i : ℕ)
+    (d h : Place) (l : Link) → hs ≡ gs → there_in gs ≡ ls → o ≡ position_from (has test) 0 hs
     → o ≡ Some i → l ≡ (get_or gs i d).link → ks ≡ set gs i h → h.there ≡ false
     → IsTaken l ls (there_in ks)
 taken-one test hs gs ks ls o i d h l same are first was is new gone =
@@ -202,13 +201,13 @@ taken-one test hs gs ks ls o i d h l same are first was is new gone =
 -- ---- where numbers rise
 
 -- what is found, where it is there
-abbrev only_there : Option Held → Option ℕ → Option ℕ
+abbrev only_there : Option Place → Option ℕ → Option ℕ
 only_there None o = None
 only_there (Some h) o = if h.there then o else None
 
 -- none of greater numbers is there with a number
-none-greater : (k : ℕ) (hs : List Held) (n : ℕ)
-    → ((i : ℕ) (d : Held) → i < length hs → k < (get_or hs i d).link.connection)
+none-greater : (k : ℕ) (hs : List Place) (n : ℕ)
+    → ((i : ℕ) (d : Place) → i < length hs → k < (get_or hs i d).link.connection)
     → position_from (has (λ l. l.connection == k)) n hs ≡ None
 none-greater k [] n more = refl
 none-greater k (h ∷ hs) n more =
@@ -226,7 +225,7 @@ none-greater k (h ∷ hs) n more =
     by false false e = refl
 
 -- the place with a number, where its connection is there
-known-place : (k : ℕ) (hs : List Held) (n : ℕ) → AllRise hs
+known-place : (k : ℕ) (hs : List Place) (n : ℕ) → AllRise hs
     → position_from (has (λ l. l.connection == k)) n hs
     ≡ only_there (find (λ h. h.link.connection == k) hs) (position_from (λ h. h.link.connection
     == k) n hs)
@@ -237,11 +236,11 @@ known-place k (h ∷ hs) n rises =
   where
     by : (b t : Bool) → h.there ≡ b → (h.link.connection == k) ≡ t
         → position_from (has (λ (l : Link). l.connection == k)) (n + 1) hs
-        ≡ only_there (find (λ (g : Held). g.link.connection == k) hs) (position_from (λ (g : Held).
+        ≡ only_there (find (λ (g : Place). g.link.connection == k) hs) (position_from (λ (g : Place).
         g.link.connection == k) (n + 1) hs)
         → cond (b && t) (Some n) (position_from (has (λ (l : Link). l.connection == k)) (n + 1) hs)
-        ≡ only_there (cond t (Some h) (find (λ (g : Held). g.link.connection == k) hs))
-        (cond t (Some n) (position_from (λ (g : Held). g.link.connection == k) (n + 1) hs))
+        ≡ only_there (cond t (Some h) (find (λ (g : Place). g.link.connection == k) hs))
+        (cond t (Some n) (position_from (λ (g : Place). g.link.connection == k) (n + 1) hs))
     by true true e is later = sym (ap (λ b. cond b (Some n) None) e)
     by true false e is later = later
     by false true e is later =
@@ -252,37 +251,37 @@ known-place k (h ∷ hs) n rises =
         ∙ sym (ap (λ b. cond b (Some n) None) e)
     by false false e is later = later
 
-pub place-none : (k : ℕ) (hs : List Held) (o : Option ℕ) → AllRise hs
+pub place-none : (k : ℕ) (hs : List Place) (o : Option ℕ) → AllRise hs
     → o ≡ position_from (λ h. h.link.connection == k) 0 hs → o ≡ None
     → position_from (has (λ l. l.connection == k)) 0 hs ≡ None
 place-none k hs o rises first was =
     known-place k hs 0 rises
-    ∙ ap (λ f. only_there f (position_from (λ (h : Held). h.link.connection == k) 0 hs))
-    (none-stands (λ (h : Held). h.link.connection == k) hs (sym first ∙ was)).0
+    ∙ ap (λ f. only_there f (position_from (λ (h : Place). h.link.connection == k) 0 hs))
+    (none-stands (λ (h : Place). h.link.connection == k) hs (sym first ∙ was)).0
 
-pub place-gone : (k : ℕ) (hs : List Held) (o : Option ℕ) (i : ℕ) (d : Held) → AllRise hs
+pub place-gone : (k : ℕ) (hs : List Place) (o : Option ℕ) (i : ℕ) (d : Place) → AllRise hs
     → o ≡ position_from (λ h. h.link.connection == k) 0 hs → o ≡ Some i
     → (get_or hs i d).there ≡ false → position_from (has (λ l. l.connection == k)) 0 hs ≡ None
 place-gone k hs o i d rises first was gone =
-    let p = position_from (λ (h : Held). h.link.connection == k) 0 hs in
+    let p = position_from (λ (h : Place). h.link.connection == k) 0 hs in
     known-place k hs 0 rises
-    ∙ ap (λ f. only_there f p) ((standing (λ (h : Held). h.link.connection == k) hs i (sym first
+    ∙ ap (λ f. only_there f p) ((standing (λ (h : Place). h.link.connection == k) hs i (sym first
     ∙ was)).found d)
     ∙ ap (λ b. cond b p None) gone
 
-pub place-there : (k : ℕ) (hs : List Held) (o : Option ℕ) (i : ℕ) (d : Held) → AllRise hs
+pub place-there : (k : ℕ) (hs : List Place) (o : Option ℕ) (i : ℕ) (d : Place) → AllRise hs
     → o ≡ position_from (λ h. h.link.connection == k) 0 hs → o ≡ Some i
     → (get_or hs i d).there ≡ true → position_from (has (λ l. l.connection == k)) 0 hs ≡ Some i
 place-there k hs o i d rises first was there =
-    let p = position_from (λ (h : Held). h.link.connection == k) 0 hs in
+    let p = position_from (λ (h : Place). h.link.connection == k) 0 hs in
     known-place k hs 0 rises
-    ∙ ap (λ f. only_there f p) ((standing (λ (h : Held). h.link.connection == k) hs i (sym first
+    ∙ ap (λ f. only_there f p) ((standing (λ (h : Place). h.link.connection == k) hs i (sym first
     ∙ was)).found d)
     ∙ ap (λ b. cond b p None) there ∙ sym first ∙ was
 
 -- those that are there have greater numbers than one, where all have
-above-there : (k : ℕ) (hs : List Held)
-    → ((i : ℕ) (d : Held) → i < length hs → k < (get_or hs i d).link.connection)
+above-there : (k : ℕ) (hs : List Place)
+    → ((i : ℕ) (d : Place) → i < length hs → k < (get_or hs i d).link.connection)
     → (i : ℕ) (d : Link) → i < length (there_in hs) → k < (get_or (there_in hs) i d).connection
 above-there k [] more i d within = absurd (omega (arith, within))
 above-there k (h ∷ hs) more i d within =
@@ -297,7 +296,7 @@ above-there k (h ∷ hs) more i d within =
     by false j here later = later j d here
 
 -- the numbers of those that are there rise
-rises-there : (hs : List Held) → AllRise hs → Rises (there_in hs)
+rises-there : (hs : List Place) → AllRise hs → Rises (there_in hs)
 rises-there [] rises i j d less within = absurd (omega (arith, within))
 rises-there (h ∷ hs) rises i j d less within =
     by h.there i j less within (rises-there hs (λ m n e low high. rises (suc m) (suc n) e (omega (
@@ -320,8 +319,8 @@ rises-there (h ∷ hs) rises i j d less within =
     by false i j low high later = later i j d low high
 
 -- another at a place with its number
-number-put : (hs : List Held) (i : ℕ) (d h : Held) → i < length hs
-    → h.link.connection ≡ (get_or hs i d).link.connection → (m : ℕ) (e : Held)
+number-put : (hs : List Place) (i : ℕ) (d h : Place) → i < length hs
+    → h.link.connection ≡ (get_or hs i d).link.connection → (m : ℕ) (e : Place)
     → (get_or (set hs i h) m e).link.connection ≡ (get_or hs m e).link.connection
 number-put hs i d h within same m e = by (m == i) refl
   where
@@ -330,14 +329,14 @@ number-put hs i d h within same m e = by (m == i) refl
     by true k =
         let one : i ≡ m = grind (arith, nat_tests) in
         subst (λ p. (get_or (set hs i h) p e).link.connection ≡ (get_or hs p e).link.connection) one
-        (ap (λ (g : Held). g.link.connection) (get_or-set_same hs i h e within) ∙ same
-        ∙ ap (λ (g : Held). g.link.connection) (get_or_default hs i d e within))
+        (ap (λ (g : Place). g.link.connection) (get_or-set_same hs i h e within) ∙ same
+        ∙ ap (λ (g : Place). g.link.connection) (get_or_default hs i d e within))
     by false k =
         let other : m ≢ i = grind (arith, nat_tests) in
-        ap (λ (g : Held). g.link.connection) (get_or-set_other hs i m h e other)
+        ap (λ (g : Place). g.link.connection) (get_or-set_other hs i m h e other)
 
 -- a place keeps its number
-pub rises-put : (hs ks : List Held) (i : ℕ) (d h : Held) → i < length hs → ks ≡ set hs i h
+pub rises-put : (hs ks : List Place) (i : ℕ) (d h : Place) → i < length hs → ks ≡ set hs i h
     → h.link.connection ≡ (get_or hs i d).link.connection → AllRise hs → AllRise ks
 rises-put hs ks i d h within new same rises =
     subst AllRise (sym new) (λ m n e low high.
@@ -347,33 +346,25 @@ rises-put hs ks i d h within new same rises =
     (rises m n e low (subst (λ a. n < a) (length-set hs i h) high))))
 
 -- some places are given up
-pub rises-filter : (p : Held → Bool) (hs ks : List Held) → ks ≡ filter p hs → AllRise hs
+pub rises-filter : (p : Place → Bool) (hs ks : List Place) → ks ≡ filter p hs → AllRise hs
     → AllRise ks
-rises-filter p hs ks e rises = subst AllRise (sym e) (AllPairs-filter (λ (h g : Held).
+rises-filter p hs ks e rises = subst AllRise (sym e) (AllPairs-filter (λ (h g : Place).
     h.link.connection < g.link.connection) p hs rises)
 
 -- the numbers of those that are there rise to that of one more
-pub rises-more : (hs gs : List Held) (ls : List Link) (l : Link) → hs ≡ gs → there_in gs ≡ ls
+pub rises-more : (hs gs : List Place) (ls : List Link) (l : Link) → hs ≡ gs → there_in gs ≡ ls
     → AllRise (hs ++ record { link = l; there = true } ∷ []) → Rises (ls ++ l ∷ [])
 rises-more hs gs ls l same are rises =
     subst Rises (there-append hs (record { link = l; there = true } ∷ [])
     ∙ ap (λ ms. ms ++ l ∷ []) (ap there_in same ∙ are)) (rises-there _ rises)
 
--- one more goes to the end, where memory is found
-pub placed-added : (rising rises : Bool) (first end from to : ℕ) (hs ks : List Held) (h : Held)
-    (done : Bool) → ArePlaced rising first end hs
-    → (rises ≡ true → AllRise hs → AllRise (hs ++ h ∷ [])) → WaitWithin from to hs
-    → (is_some h.link.awaits ≡ true → (from ≤ length hs) × (length hs < to))
+-- where numbers rise to that of one more, they rise with it, if memory is found
+pub rises-added : (rising rises : Bool) (hs ks : List Place) (h : Place) (done : Bool)
+    → (rising ≡ true → AllRise hs) → (rises ≡ true → AllRise hs → AllRise (hs ++ h ∷ []))
     → (done ≡ true → ks ≡ hs ++ h ∷ []) → (done ≡ false → ks ≡ hs)
-    → ArePlaced (rising && rises) from to ks
-placed-added rising rises first end from to hs ks h true placed up wide waits added same =
-    subst (ArePlaced (rising && rises) from to) (sym (added refl)) (record {
-      rises = λ says.
-          let both = and-both rising rises says in up both.1 (placed.rises both.0);
-      waits = within-added hs from to h wide waits;
-    })
-placed-added rising rises first end from to hs ks h false placed up wide waits added same =
-    subst (ArePlaced (rising && rises) from to) (sym (same refl)) (record {
-      rises = λ says. placed.rises (and-both rising rises says).0;
-      waits = wide;
-    })
+    → (rising && rises) ≡ true → AllRise ks
+rises-added rising rises hs ks h true before up added same says =
+    let both = and-both rising rises says in
+    subst AllRise (sym (added refl)) (up both.1 (before both.0))
+rises-added rising rises hs ks h false before up added same says =
+    subst AllRise (sym (same refl)) (before (and-both rising rises says).0)

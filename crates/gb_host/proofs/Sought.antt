@@ -6,7 +6,7 @@ use Rattle.std.proofs.lemmas.List.Elements.{filter-append}
 use Rattle.std.specs.List.{filter, find}
 use Rattle.gb_base.specs.declared.interface.Link.{Link}
 use Rattle.gb_formats.specs.Images.{Images, forgotten}
-use Rattle.gb_host.proofs.Leaving.{counted-left}
+use Rattle.gb_host.proofs.Leaving.{kept-left}
 use Rattle.gb_host.proofs.Rising.{found-passes}
 use Rattle.gb_host.specs.Changes.{IsTaken}
 use Rattle.gb_host.specs.Counts.{AreCounted}
@@ -37,7 +37,7 @@ sought-next test x y z ls ms ks o l e some taken leaves sought = record {
       (sym (found-passes test ms l (sym e ∙ some)))
       ∙ sym (filter-append (λ k. not (test k)) taken.front (l ∷ taken.behind))
       ∙ ap (without test) (sym taken.old_is) ∙ sought.left;
-  counted = λ counted. counted-left y z ms ks l taken leaves (sought.counted counted);
+  counted = λ counted. kept-left (AreCounted y) (AreCounted z) ms ks l taken leaves (sought.counted counted);
 }
 
 -- where none passes the test, all stay

@@ -1,4 +1,5 @@
 pub mod Asking
+pub mod Awaited
 pub mod Bridging
 pub mod Changes
 pub mod Counts

@@ -1,9 +1,11 @@
 //! The connections to modules, with what is kept to look them up.
 
-ghost use Rattle.std.specs.Prelude.{◌≡◌, ◌==◌, ◌<◌, ◌∷◌, [], ◌++◌, None, IfOk, OnOk};
+ghost use Rattle.std.specs.Prelude.{◌≡◌, ◌==◌, ◌<◌, ◌∷◌, [], ◌++◌, true, None, IfOk, OnOk};
 ghost use Rattle.std.specs.Prelude.{Bool, List, find, map};
 ghost use Rattle.std.specs.List.{filter, list_any};
 ghost use Rattle.gb_base.specs.declared.interface.Link.{Link};
+ghost use Rattle.gb_host.specs.Awaited.{AreAwaited, waits_for};
+ghost use Rattle.gb_host.specs.Changes.{link_awaits};
 ghost use Rattle.gb_host.specs.Counts.{AreCounted};
 ghost use Rattle.gb_host.specs.Indexes.{Rises};
 ghost use Rattle.gb_host.specs.Named.{AreNamed};
@@ -13,26 +15,30 @@ ghost use Rattle.gb_machine.specs.HostServing.{with_credits};
 ghost use Rattle.gb_machine.specs.Lists.{at_first, first_free, without};
 ghost use Rattle.gb_machine.specs.Waits.{link_waits};
 
+use crate::awaited::Awaited;
 use crate::cports::Cports;
 use crate::ends::Ends;
 use crate::links::{LinkChange, Links};
+use crate::waiting::purpose_in;
 use gb_base::{ConnState, Link, OutOfMemory, Purpose, Sequence, SequenceStep};
 use gb_firmware::Images;
 use gb_groups::Groups;
 use std::alloc::Global;
 use std::marker::Model;
 
-/// The connections to modules in order of number. A contract sees them alone. The rest is kept so
-/// that a look-up or a removal doesn't go over all of them: the CPorts of the application processor
-/// that they have, and the numbers of those at each far end and of each interface. Where numbers
-/// don't rise, two have one far end, or no memory was found, far ends and numbers aren't known, and
-/// are looked for one by one.
+/// The connections to modules in the order in which they were made. A contract sees them alone. The
+/// rest is kept so that a look-up or a removal doesn't go over all of them: the CPorts of the
+/// application processor that they have, and the numbers of those at each far end, of each interface
+/// and that wait for each request. Where numbers don't rise, two have one far end or wait for one
+/// request, or no memory was found, far ends, numbers and requests aren't known, and are looked for
+/// one by one.
 #[derive(Drop)]
 pub struct Connections {
     links: Links,
     cports: Cports,
     ends: Ends,
     numbers: Groups,
+    awaited: Awaited,
     known: bool,
 }
 
@@ -45,7 +51,8 @@ impl Model for Connections {
 
     ghost view = { λ x. x.links };
 
-    ghost invariant = { λ x. AreIndexed x.cports x.ends x.numbers x.known x.links.items };
+    ghost invariant = { λ x.
+        AreIndexed x.cports x.ends x.numbers x.awaited x.known x.links.items };
 }
 
 impl Connections {
@@ -61,6 +68,7 @@ impl Connections {
             cports: Cports::new(alloc)?,
             ends: Ends::new(alloc),
             numbers: Groups::new(alloc)?,
+            awaited: Awaited::new(alloc),
             known: true,
         })
     }
@@ -108,7 +116,8 @@ impl Connections {
     pub fn waiting(&self, number: u64) -> Option<Purpose>
         ensures { result ≡ link_waits number self.now.items }
     {
-        self.links.waiting(number)
+        let link = self.waiting_for(number)?;
+        purpose_in(number, link.intf, link.cport, link.awaits)
     }
 
     /// What the connect or close of a connection waits for.
@@ -154,7 +163,13 @@ impl Connections {
             return;
         }
         if let Some(number) = self.ends.number(intf, cport) {
-            leave(&mut self.links, &mut self.cports, &mut self.ends, number);
+            leave(
+                &mut self.links,
+                &mut self.cports,
+                &mut self.ends,
+                &mut self.awaited,
+                number,
+            );
             self.numbers.remove(intf, number);
         }
     }
@@ -171,11 +186,17 @@ impl Connections {
         }
         let numbers = self.numbers.of(intf);
         free(images, numbers);
-        leave_all(&mut self.links, &mut self.cports, &mut self.ends, numbers);
+        leave_all(
+            &mut self.links,
+            &mut self.cports,
+            &mut self.ends,
+            &mut self.awaited,
+            numbers,
+        );
         self.numbers.clear(intf);
     }
 
-    /// A connection goes to the end.
+    /// A connection goes to the end, where there is room.
     pub fn add(&mut self, link: Link)
         ensures { HasRoom self.old → self.new.items ≡ self.old.items ++ link ∷ [] }
     {
@@ -184,7 +205,7 @@ impl Connections {
             self.cports.take(link);
             let named = self.ends.add(link);
             let there = self.numbers.add(link.intf, link.connection).is_ok();
-            self.known &= rises & named & there;
+            self.known &= rises & named & there & link.awaits.is_none();
         }
     }
 
@@ -217,11 +238,31 @@ impl Connections {
         ensures { self.new.items
             ≡ at_first (is_link intf cport) (link_awaits awaits) self.old.items }
     {
-        self.change(intf, cport, LinkChange::Awaits(awaits));
+        if !self.known {
+            self.links
+                .change_at(intf, cport, LinkChange::Awaits(awaits));
+            return;
+        }
+        if let Some(number) = self.ends.number(intf, cport) {
+            self.known = await_other(&mut self.links, &mut self.awaited, number, awaits);
+        }
     }
 
-    /// A connection is changed.
+    /// The connection that waits for a request.
+    #[inline]
+    fn waiting_for(&self, number: u64) -> Option<Link>
+        ensures { result ≡ find (waits_for number) self.now.items }
+    {
+        if !self.known {
+            return self.links.waiting(number);
+        }
+        let connection = self.awaited.of(number)?;
+        self.links.of(connection)
+    }
+
+    /// A connection is changed, but not what it waits for.
     fn change(&mut self, intf: u8, cport: u16, change: LinkChange)
+        requires { (l : Link) → (link_changed change l).awaits ≡ l.awaits }
         ensures { self.new.items
             ≡ at_first (is_link intf cport) (link_changed change) self.old.items }
     {
@@ -235,24 +276,57 @@ impl Connections {
     }
 }
 
+/// The connection with a number waits for this from now on. Whether it is known which connections
+/// wait, where it was: nothing is said at false.
+fn await_other(
+    links: &mut Links,
+    awaited: &mut Awaited,
+    number: u64,
+    awaits: Option<(u64, SequenceStep)>,
+) -> bool
+    ensures changed { links.new.items ≡ at_first (λ l. l.connection == number)
+        (link_awaits awaits) links.old.items }
+    ensures awaited { result ≡ true → AreAwaited awaited.old links.old.items
+        → AreAwaited awaited.new links.new.items }
+{
+    match links.change_of(number, LinkChange::Awaits(awaits)) {
+        Some(link) => awaited.change(link, awaits),
+        None => true,
+    }
+}
+
 /// The connection with a number is there no more, where numbers rise.
-fn leave(links: &mut Links, cports: &mut Cports, ends: &mut Ends, number: u64)
+fn leave(
+    links: &mut Links,
+    cports: &mut Cports,
+    ends: &mut Ends,
+    awaited: &mut Awaited,
+    number: u64,
+)
     ensures left { Rises links.old.items
         → links.new.items ≡ without (λ l. l.connection == number) links.old.items }
-    ensures counted { Rises links.old.items → AreCounted cports.old links.old.items
+    ensures counted { AreCounted cports.old links.old.items
         → AreCounted cports.new links.new.items }
-    ensures named { Rises links.old.items → AreNamed ends.old links.old.items
-        → AreNamed ends.new links.new.items }
+    ensures named { AreNamed ends.old links.old.items → AreNamed ends.new links.new.items }
+    ensures awaited { AreAwaited awaited.old links.old.items
+        → AreAwaited awaited.new links.new.items }
 {
-    if let Some(link) = links.take_rising(number) {
+    if let Some(link) = links.take_numbered(number) {
         cports.leave(link);
         ends.remove(link.intf, link.cport);
+        awaited.leave(link);
     }
 }
 
 /// The connections with these numbers are there no more, where numbers rise and these are the
 /// numbers of all that pass a test.
-fn leave_all(links: &mut Links, cports: &mut Cports, ends: &mut Ends, numbers: &[u64])
+fn leave_all(
+    links: &mut Links,
+    cports: &mut Cports,
+    ends: &mut Ends,
+    awaited: &mut Awaited,
+    numbers: &[u64],
+)
     ensures left { (test : Link → Bool) → Rises links.old.items
         → numbers.now ≡ numbers_where test links.old.items
         → links.new.items ≡ without test links.old.items }
@@ -260,9 +334,11 @@ fn leave_all(links: &mut Links, cports: &mut Cports, ends: &mut Ends, numbers: &
         → AreCounted cports.new links.new.items }
     ensures named { Rises links.old.items → AreNamed ends.old links.old.items
         → AreNamed ends.new links.new.items }
+    ensures awaited { Rises links.old.items → AreAwaited awaited.old links.old.items
+        → AreAwaited awaited.new links.new.items }
 {
     for number in numbers {
-        leave(links, cports, ends, *number);
+        leave(links, cports, ends, awaited, *number);
     }
 }
 

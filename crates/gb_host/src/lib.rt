@@ -4,6 +4,7 @@
 
 mod acts;
 mod asking;
+mod awaited;
 mod bridging;
 mod connecting;
 mod connections;

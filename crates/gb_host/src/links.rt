@@ -3,13 +3,13 @@
 ghost use Rattle.std.specs.Prelude.{◌≡◌, ◌==◌, ◌<◌, ◌∷◌, [], ◌++◌, ◌^◌, true, false};
 ghost use Rattle.std.specs.Prelude.{IfOk, OnOk, find, length};
 ghost use Rattle.std.specs.List.{filter};
+ghost use Rattle.gb_host.specs.Awaited.{waits_for};
 ghost use Rattle.gb_host.specs.Indexes.{Rises};
 ghost use Rattle.gb_machine.specs.Host.{is_link};
 ghost use Rattle.gb_machine.specs.Lists.{at_first, without};
-ghost use Rattle.gb_machine.specs.Waits.{link_waits};
 
-use crate::places::{Held, Sought, Span, all_of, end_there, push, put, rises_to, waiting};
-use gb_base::{ConnState, Link, OutOfMemory, Purpose, Sequence, SequenceStep};
+use crate::places::{Place, Sought, end_there, push, rises_to};
+use gb_base::{ConnState, Link, OutOfMemory, Sequence, SequenceStep};
 use std::alloc::Global;
 use std::marker::Model;
 
@@ -49,36 +49,34 @@ impl LinkChange {
     }
 }
 
-/// The connections to modules in order of number. A contract sees them alone, and whether one more
-/// takes no memory. A connection that is gone leaves its place behind, and nothing moves. Once more
+/// The connections to modules in the order in which they were made. A contract sees them alone, and
+/// whether one more takes no memory. A connection that is gone leaves its place behind, and nothing moves. Once more
 /// than half of the places are left behind, these are given up together, so that a removal costs
 /// the others nothing.
 #[derive(Drop)]
 pub struct Links {
-    places: Vec<Held>,
+    places: Vec<Place>,
     /// How many places are left behind.
     gone: usize,
     /// The numbers rise.
     rising: bool,
-    /// The places that may wait.
-    waits: Span,
 }
 
 impl Model for Links {
-    ghost use Rattle.std.specs.Prelude.{nat_lt};
+    ghost use Rattle.std.specs.Prelude.{◌≡◌, nat_lt, true};
     ghost use Rattle.std.specs.Vec.{vec_capacity, vec_len};
     ghost use Rattle.gb_host.specs.LinkList.{LinkList};
 
     ghost Value = { LinkList };
 
-    ghost use Rattle.gb_host.specs.Places.{ArePlaced, there_in};
+    ghost use Rattle.gb_host.specs.Places.{AllRise, there_in};
 
     ghost view = { λ x. record {
       items = there_in x.places.items;
       room = nat_lt (vec_len x.places) (vec_capacity x.places);
     } };
 
-    ghost invariant = { λ x. ArePlaced x.rising x.waits.first x.waits.end x.places.items };
+    ghost invariant = { λ x. x.rising ≡ true → AllRise x.places.items };
 }
 
 impl Links {
@@ -93,7 +91,6 @@ impl Links {
             places: Vec::new(alloc),
             gone: 0,
             rising: true,
-            waits: Span { first: 0, end: 0 },
         }
     }
 
@@ -117,27 +114,28 @@ impl Links {
         ensures { IfOk result (λ ls. ls ≡ filter (λ l. l.intf == intf) self.now.items) }
     {
         let mut links = Sequence::new(alloc);
-        for held in &self.places {
-            if held.there && held.link.intf == intf {
-                links.push(held.link)?;
+        for place in &self.places {
+            if place.there && place.link.intf == intf {
+                links.push(place.link)?;
             }
         }
         Ok(links)
     }
 
-    /// Numbers rise to that of a connection that is about to go to the end, where they rise.
+    /// Numbers rise to that of a connection that is about to go to the end, where they rise. Nothing
+    /// is said at false.
     pub fn rises_to(&self, link: Link) -> bool
         ensures { result ≡ true → Rises self.now.items → Rises (self.now.items ++ link ∷ []) }
     {
         self.rising && rises_to(self.places.as_slice(), link)
     }
 
-    /// The purpose of a request that a connect or close waits for.
-    #[inline]
-    pub fn waiting(&self, number: u64) -> Option<Purpose>
-        ensures { result ≡ link_waits number self.now.items }
+    /// The connection that waits for a request. All may be looked at.
+    #[inline(never)]
+    pub fn waiting(&self, number: u64) -> Option<Link>
+        ensures { result ≡ find (waits_for number) self.now.items }
     {
-        waiting(self.places.as_slice(), self.waits, number)
+        self.first(Sought::Request(number))
     }
 
     /// A connection more will take no memory.
@@ -157,19 +155,18 @@ impl Links {
         ensures few { length self.old.items < 2 ^ 63 }
     {
         let rises = rises_to(self.places.as_slice(), link);
-        let place = self.places.len();
         self.rising &= rises;
-        self.waits = self.waits.around(place, link.awaits.is_some());
-        push(&mut self.places, Held { link, there: true })
+        push(&mut self.places, Place { link, there: true })
     }
 
-    /// The connection with a number is changed.
+    /// The connection with a number is changed. It comes as it was.
     #[inline]
-    pub fn change_of(&mut self, connection: u64, change: LinkChange)
-        ensures { self.new.items ≡ at_first (λ l. l.connection == connection)
+    pub fn change_of(&mut self, connection: u64, change: LinkChange) -> Option<Link>
+        ensures was { result ≡ find (λ l. l.connection == connection) self.old.items }
+        ensures changed { self.new.items ≡ at_first (λ l. l.connection == connection)
             (link_changed change) self.old.items }
     {
-        self.change(Sought::Number(connection), change);
+        self.change(Sought::Number(connection), change)
     }
 
     /// The connection to a CPort of an interface is changed.
@@ -183,9 +180,8 @@ impl Links {
 
     /// Takes the connection with a number, and leaves its place behind. None comes where there is
     /// none.
-    pub fn take_rising(&mut self, connection: u64) -> Option<Link>
-        ensures link { Rises self.old.items
-            → result ≡ find (λ l. l.connection == connection) self.old.items }
+    pub fn take_numbered(&mut self, connection: u64) -> Option<Link>
+        ensures link { result ≡ find (λ l. l.connection == connection) self.old.items }
         ensures taken { Rises self.old.items
             → self.new.items ≡ without (λ l. l.connection == connection) self.old.items }
         ensures out { Takes result self.old.items self.new.items }
@@ -219,20 +215,20 @@ impl Links {
         Some(places[place].link)
     }
 
-    /// The first of the connections that are sought is changed.
+    /// The first of the connections that are sought is changed. It comes as it was.
     #[inline(always)]
-    fn change(&mut self, sought: Sought, change: LinkChange)
-        ensures { self.new.items ≡ at_first (passes sought) (link_changed change) self.old.items }
+    fn change(&mut self, sought: Sought, change: LinkChange) -> Option<Link>
+        ensures was { result ≡ find (passes sought) self.old.items }
+        ensures changed { self.new.items
+            ≡ at_first (passes sought) (link_changed change) self.old.items }
     {
-        if let Some(place) = sought.place(self.places.as_slice(), self.rising) {
-            let link = change.of(self.places[place].link);
-            self.waits = put(
-                &mut self.places,
-                self.waits,
-                place,
-                Held { link, there: true },
-            );
-        }
+        let place = sought.place(self.places.as_slice(), self.rising)?;
+        let link = self.places[place].link;
+        self.places[place] = Place {
+            link: change.of(link),
+            there: true,
+        };
+        Some(link)
     }
 
     /// Takes the first of the connections that are sought.
@@ -254,15 +250,7 @@ impl Links {
     {
         let place = sought.place(self.places.as_slice(), self.rising)?;
         let link = self.places[place].link;
-        let quiet = Link {
-            awaits: None,
-            ..link
-        };
-        let held = Held {
-            link: quiet,
-            there: false,
-        };
-        self.waits = put(&mut self.places, self.waits, place, held);
+        self.places[place] = Place { link, there: false };
         self.gone = self.gone.saturating_add(1);
         Some(link)
     }
@@ -291,8 +279,7 @@ impl Links {
     fn sweep(&mut self)
         ensures { self.new.items ≡ self.old.items }
     {
-        self.places.retain(|held| held.there);
+        self.places.retain(|place| place.there);
         self.gone = 0;
-        self.waits = all_of(self.places.as_slice());
     }
 }

@@ -10,9 +10,10 @@ use Rattle.gb_host.proofs.connections.Connections.change.Goals as goal
 
 pub invariant_of-self : goal.invariant_of-self
 invariant_of-self c =
-    indexed-kept c.self.inside.cports c.self.inside.ends c.self.inside.numbers c.self.inside.known
-    (is_link c.args.intf c.args.cport) c.args.change c.self.inside.links.items
-    c.change_at.new.self.items c.change_at.ensures c.self.invariant
+    indexed-kept c.self.inside.cports c.self.inside.ends c.self.inside.numbers
+    c.self.inside.awaited c.self.inside.known (is_link c.args.intf c.args.cport) c.args.change
+    c.self.inside.links.items c.change_at.new.self.items c.requires c.change_at.ensures
+    c.self.invariant
 
 pub invariant_of-self-in-Some : goal.invariant_of-self-in-Some
 invariant_of-self-in-Some c =
@@ -20,19 +21,20 @@ invariant_of-self-in-Some c =
     let ls = c.self.inside.links.items in
     let ms = c.change_of.new.self.items in
     let says = c.if-not-self.false in
-    let changed : ms ≡ at_first test (link_changed c.args.change) ls = c.change_of.ensures
+    let changed : ms ≡ at_first test (link_changed c.args.change) ls = c.change_of.ensures.changed
     ∙ changed-numbered test (link_changed c.args.change) ls c.number.result c.in-Some.number
     (c.self.invariant.rises says) (c.number.ensures ls (c.self.invariant.named says))
     c.in-Some.is in
-    indexed-kept c.self.inside.cports c.self.inside.ends c.self.inside.numbers c.self.inside.known
-    test c.args.change ls ms changed c.self.invariant
+    indexed-kept c.self.inside.cports c.self.inside.ends c.self.inside.numbers
+    c.self.inside.awaited c.self.inside.known test c.args.change ls ms c.requires changed
+    c.self.invariant
 
 pub returns-in-Some : goal.returns-in-Some
 returns-in-Some c =
     let test = is_link c.args.intf c.args.cport in
     let ls = c.self.inside.links.items in
     let says = c.if-not-self.false in
-    c.change_of.ensures
+    c.change_of.ensures.changed
     ∙ changed-numbered test (link_changed c.args.change) ls c.number.result c.in-Some.number
     (c.self.invariant.rises says) (c.number.ensures ls (c.self.invariant.named says))
     c.in-Some.is

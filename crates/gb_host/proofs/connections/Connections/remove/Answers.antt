@@ -1,7 +1,7 @@
 -- The connection leaves that is alone at the far end, and what is kept is right for the others.
 use Rattle.std.proofs.Common.{◌≡◌, ◌<◌, rules, sym, ap, ◌∙◌, subst}
 use Rattle.gb_host.proofs.Grouped.{groups-one}
-use Rattle.gb_host.proofs.Indexed.{indexed-left, indexed-recounted}
+use Rattle.gb_host.proofs.Indexed.{indexed-left, indexed-unknown}
 use Rattle.gb_host.proofs.Leaving.{end-leaves, end-stays}
 use Rattle.gb_host.specs.LinkList.{LinkList}
 use Rattle.gb_host.proofs.connections.Connections.remove.Goals as goal
@@ -10,8 +10,8 @@ use Rattle.gb_machine.specs.Lists.{without}
 
 pub invariant_of-self : goal.invariant_of-self
 invariant_of-self c =
-    indexed-recounted c.leave_at.new.cports c.self.inside.ends c.self.inside.numbers
-    c.self.inside.known c.leave_at.new.links.items c.if-not-self.true
+    indexed-unknown c.leave_at.new.cports c.self.inside.ends c.self.inside.numbers
+    c.self.inside.awaited c.self.inside.known c.leave_at.new.links.items c.if-not-self.true
     (c.leave_at.ensures.counted c.self.invariant.counted)
 
 pub invariant_of-self-in-Some : goal.invariant_of-self-in-Some
@@ -26,11 +26,12 @@ invariant_of-self-in-Some c =
     let e : ms ≡ without (is_link c.args.intf c.args.cport) ls = left
     ∙ end-leaves c.self.inside.ends c.args.intf c.args.cport c.in-Some.number ls c.number.result low
     rises named (c.number.ensures ls named) c.in-Some.is in
-    indexed-left c.leave.new.cports c.leave.new.ends c.remove.new.self c.self.inside.known
-    (is_link c.args.intf c.args.cport) ls ms e rises
-    (c.leave.ensures.counted rises c.self.invariant.counted) (c.leave.ensures.named rises named)
+    indexed-left c.leave.new.cports c.leave.new.ends c.remove.new.self c.leave.new.awaited
+    c.self.inside.known (is_link c.args.intf c.args.cport) ls ms e rises
+    (c.leave.ensures.counted c.self.invariant.counted) (c.leave.ensures.named named)
     (groups-one c.args.intf c.args.cport c.in-Some.number c.self.inside.numbers
     c.remove.new.self ls ms left e c.remove.ensures (c.self.invariant.grouped says))
+    (c.leave.ensures.awaited (c.self.invariant.waiting says))
 
 pub returns-in-Some : goal.returns-in-Some
 returns-in-Some c =

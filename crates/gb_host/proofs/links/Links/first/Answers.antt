@@ -4,7 +4,7 @@ use Rattle.gb_host.proofs.LinksThere.{found-none, found-one}
 use Rattle.gb_host.specs.LinkList.{LinkList}
 use Rattle.gb_host.specs.Places.{AllRise}
 use Rattle.gb_host.specs.Sought.{passes}
-use Rattle.gb_host.specs.declared.places.Held.{Held}
+use Rattle.gb_host.specs.declared.places.Place.{Place}
 use Rattle.gb_host.proofs.links.Links.first.Goals as goal
 
 pub returns-in_err-place : goal.returns-in_err-place
@@ -13,8 +13,7 @@ returns-in_err-place c =
     c.args.self.now.items c.place.result c.from_residual.result c.as_slice-places.ensures.value
     (ap (λ (x : LinkList). x.items) c.self.view_is)
     (c.place.ensures.first (λ says. subst AllRise (sym c.as_slice-places.ensures.value)
-    (c.self.invariant.rises
-    says))) c.in_err-place.was c.from_residual.ensures
+    (c.self.invariant says))) c.in_err-place.was c.from_residual.ensures
 
 pub returns : goal.returns
 returns c =
@@ -22,7 +21,6 @@ returns c =
     c.args.self.now.items c.place.result c.in_ok-place.place _ _ c.as_slice-places.ensures.value
     (ap (λ (x : LinkList). x.items) c.self.view_is)
     (c.place.ensures.first (λ says. subst AllRise (sym c.as_slice-places.ensures.value)
-    (c.self.invariant.rises
-    says))) c.in_ok-place.was
-    (ap (λ (ks : List Held). (get_or {A = Held} ks c.in_ok-place.place _).link)
+    (c.self.invariant says))) c.in_ok-place.was
+    (ap (λ (ks : List Place). (get_or {A = Place} ks c.in_ok-place.place _).link)
     c.as_slice-places.ensures.value)

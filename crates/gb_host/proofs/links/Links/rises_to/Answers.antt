@@ -10,4 +10,4 @@ returns-then-self c = λ says rises.
     rises-more c.as_slice.result.now c.self.inside.places.items c.args.self.now.items c.args.link
     c.as_slice.ensures.value (ap (λ (x : LinkList). x.items) c.self.view_is)
     (c.rises_to.ensures true says (subst AllRise (sym c.as_slice.ensures.value)
-    (c.self.invariant.rises c.if-self.true)))
+    (c.self.invariant c.if-self.true)))

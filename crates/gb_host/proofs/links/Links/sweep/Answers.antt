@@ -1,10 +1,10 @@
 -- The connections that are there stay.
-use Rattle.std.proofs.Common.{◌≡◌, rules, ap, ◌∙◌, subst}
+use Rattle.std.proofs.Common.{◌≡◌, rules, ap, ◌∙◌}
 use Rattle.std.proofs.lemmas.Fn.{filter_same}
 use Rattle.std.specs.List.{filter}
 use Rattle.gb_host.proofs.LinksThere.{rises-filter, there-swept}
 use Rattle.gb_host.specs.LinkList.{LinkList}
-use Rattle.gb_host.specs.Places.{WaitWithin, there_in}
+use Rattle.gb_host.specs.Places.{there_in}
 use Rattle.gb_host.proofs.links.Links.sweep.Goals as goal
 
 pub returns : goal.returns
@@ -20,8 +20,4 @@ invariant_of-self c =
     let hs = c.self.inside.places.items in
     let kept : c.retain.new.self.items ≡ filter (λ h. h.there) hs =
     filter_same _ (λ h. h.there) _ (λ x b f' k. search rules) _ _ c.retain.ensures.filtered in
-    record {
-      rises = λ says. rises-filter _ hs c.retain.new.self.items kept (c.self.invariant.rises says);
-      waits = subst (WaitWithin c.all_of-self-inside.result.first c.all_of-self-inside.result.end)
-          c.as_slice.ensures.value c.all_of-self-inside.ensures;
-    }
+    λ says. rises-filter _ hs c.retain.new.self.items kept (c.self.invariant says)

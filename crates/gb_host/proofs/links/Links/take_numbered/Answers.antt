@@ -1,6 +1,6 @@
 -- Those that stay have other numbers.
 use Rattle.gb_host.proofs.Rising.{takes-only}
-use Rattle.gb_host.proofs.links.Links.take_rising.Goals as goal
+use Rattle.gb_host.proofs.links.Links.take_numbered.Goals as goal
 
 pub returns-clause-taken : goal.returns-clause-taken
 returns-clause-taken c = λ rises.
