@@ -202,7 +202,8 @@ purpose_of n None = None
 purpose_of n (Some l) = purpose_in n l.intf l.cport l.awaits
 
 -- that of the first one that waits
-pub purpose-found : (n : ℕ) (ls : List Link) → purpose_of n (find (waits_for n) ls) ≡ link_waits n ls
+pub purpose-found : (n : ℕ) (ls : List Link)
+    → purpose_of n (find (waits_for n) ls) ≡ link_waits n ls
 purpose-found n [] = refl
 purpose-found n (l ∷ ls) = by (waits_for n l) refl (purpose-found n ls)
   where

@@ -236,8 +236,8 @@ known-place k (h ∷ hs) n rises =
   where
     by : (b t : Bool) → h.there ≡ b → (h.link.connection == k) ≡ t
         → position_from (has (λ (l : Link). l.connection == k)) (n + 1) hs
-        ≡ only_there (find (λ (g : Place). g.link.connection == k) hs) (position_from (λ (g : Place).
-        g.link.connection == k) (n + 1) hs)
+        ≡ only_there (find (λ (g : Place). g.link.connection == k) hs)
+        (position_from (λ (g : Place). g.link.connection == k) (n + 1) hs)
         → cond (b && t) (Some n) (position_from (has (λ (l : Link). l.connection == k)) (n + 1) hs)
         ≡ only_there (cond t (Some h) (find (λ (g : Place). g.link.connection == k) hs))
         (cond t (Some n) (position_from (λ (g : Place). g.link.connection == k) (n + 1) hs))

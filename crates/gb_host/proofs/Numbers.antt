@@ -19,11 +19,11 @@ abbrev pub has_number : ℕ → Link → Bool
 has_number k l = l.connection == k
 
 -- all have greater numbers
-abbrev AreAbove : ℕ → List Link → Type 0
+abbrev pub AreAbove : ℕ → List Link → Type 0
 AreAbove k ls = AllByRecursion (λ l. k < l.connection) ls
 
 -- those behind one have greater numbers
-above-first : (l : Link) (ls : List Link) → Rises (l ∷ ls) → AreAbove l.connection ls
+pub above-first : (l : Link) (ls : List Link) → Rises (l ∷ ls) → AreAbove l.connection ls
 above-first l ls rises =
     recursion_from_All (λ (m : Link). l.connection < m.connection) ls (λ i d within.
     rises zero (suc i) d (omega arith) (omega (arith, within)))
@@ -33,7 +33,7 @@ rises-behind l ls rises i j d less within =
     rises (suc i) (suc j) d (omega (arith, less)) (omega (arith, within))
 
 -- where all have greater numbers, none has this one
-none-numbered : (k : ℕ) (ls : List Link) → AreAbove k ls → without (has_number k) ls ≡ ls
+pub none-numbered : (k : ℕ) (ls : List Link) → AreAbove k ls → without (has_number k) ls ≡ ls
 none-numbered k [] above = refl
 none-numbered k (l ∷ ls) above =
     let more = above.0 in

@@ -12,7 +12,8 @@ use Rattle.gb_host.specs.Places.{AllRise}
 use Rattle.gb_host.specs.declared.places.Place.{Place}
 
 -- a connection has no greater number than one that stands at its place or later
-pub climbs : (ls : List Place) → AllRise ls → IsNonDecreasingBy (λ (l : Place). l.link.connection) ls
+pub climbs : (ls : List Place) → AllRise ls
+    → IsNonDecreasingBy (λ (l : Place). l.link.connection) ls
 climbs ls rises i j d most within = by (i == j) refl
   where
     by : (b : Bool) → (i == j) ≡ b → (get_or ls i d).link.connection
@@ -63,14 +64,16 @@ first-of : (k : ℕ) (ls : List Place) (n i : ℕ) (d : Place) → i < length ls
 first-of k [] n i d within before is = absurd (omega (arith, within))
 first-of k (l ∷ ls) n zero d within before is =
     let test : (l.link.connection == k) ≡ true = grind (arith, nat_tests) in
-    ap (λ b. cond b (Some n) (position_from (λ (m : Place). m.link.connection == k) (n + 1) ls)) test
-    ∙ ap Some (omega arith)
+    ap (λ b. cond b (Some n) (position_from (λ (m : Place). m.link.connection == k) (n + 1) ls))
+    test ∙ ap Some (omega arith)
 first-of k (l ∷ ls) n (suc i) d within before is =
     let least : l.link.connection < k = before zero (omega arith) in
     let test : (l.link.connection == k) ≡ false = grind (arith, nat_tests) in
-    ap (λ b. cond b (Some n) (position_from (λ (m : Place). m.link.connection == k) (n + 1) ls)) test
-    ∙ first-of k ls (n + 1) i d (omega (arith, within)) (λ j h. before (suc j) (omega (arith, h)))
-    is ∙ ap Some (omega arith)
+    ap (λ b. cond b (Some n) (position_from (λ (m : Place). m.link.connection == k) (n + 1) ls))
+    test ∙ first-of k ls (n + 1) i d (omega (arith, within)) (λ j h. before (suc j) (omega (
+      arith,
+      h,
+    ))) is ∙ ap Some (omega arith)
 
 -- none, where all have other numbers
 none-of : (k : ℕ) (ls : List Place) (n : ℕ) → ((j : ℕ) (d : Place) → j < length ls

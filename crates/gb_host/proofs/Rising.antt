@@ -5,8 +5,9 @@ use Rattle.std.proofs.Common.{refl, sym, ap, ◌∙◌, arith, subst, length-app
 use Rattle.std.proofs.Math.Seq.{get_or-append_seam}
 use Rattle.std.proofs.lemmas.Bool.Decides.{nat_tests}
 use Rattle.std.proofs.lemmas.List.Kept.{AllPairs-filter}
-use Rattle.std.specs.List.{find}
+use Rattle.std.specs.List.{filter, find}
 use Rattle.gb_base.specs.declared.interface.Link.{Link}
+use Rattle.gb_host.proofs.Numbers.{AreAbove, above-first, none-numbered}
 use Rattle.gb_host.specs.Changes.{IsTaken, Takes}
 use Rattle.gb_host.specs.Indexes.{Rises}
 use Rattle.gb_machine.specs.Lists.{at_first, without}
@@ -62,25 +63,17 @@ and-both true false h = absurd cc
 and-both false b h = absurd cc
 
 -- where none passes a test, all stay
-none-leaves : (p : Link → Bool) (ls : List Link) → find p ls ≡ None → without p ls ≡ ls
-none-leaves p [] none = refl
-none-leaves p (l ∷ ls) none = by (p l) none (none-leaves p ls)
+pub none-stays : (test : Link → Bool) (ls : List Link) → find test ls ≡ None
+    → (without test ls ≡ ls) × (filter test ls ≡ [])
+none-stays test [] e = (refl, refl)
+none-stays test (l ∷ ls) e = by (test l) e (none-stays test ls)
   where
-    by : (b : Bool) → cond b (Some l) (find p ls) ≡ None → (find p ls ≡ None → without p ls ≡ ls)
-        → cond (not b) (l ∷ without p ls) (without p ls) ≡ l ∷ ls
+    by : (b : Bool) → cond b (Some l) (find test ls) ≡ None
+        → (find test ls ≡ None → (without test ls ≡ ls) × (filter test ls ≡ []))
+        → (cond (not b) (l ∷ without test ls) (without test ls) ≡ l ∷ ls)
+        × (cond b (l ∷ filter test ls) (filter test ls) ≡ [])
     by true h later = absurd cc
-    by false h later = ap (λ ms. l ∷ ms) (later h)
-
--- where all have greater numbers, all stay
-greater-stay : (k : ℕ) (ls : List Link) → ((i : ℕ) (d : Link) → i < length ls
-    → k < (get_or ls i d).connection) → without (λ l. l.connection == k) ls ≡ ls
-greater-stay k [] more = refl
-greater-stay k (l ∷ ls) more =
-    let first : k < l.connection = more zero l (omega arith) in
-    let test : (l.connection == k) ≡ false = grind (arith, nat_tests) in
-    let later = greater-stay k ls (λ i d h. more (suc i) d (omega (arith, h))) in
-    ap (λ b. cond (not b) (l ∷ without (λ (m : Link). m.connection == k) ls) (without (λ (m : Link).
-    m.connection == k) ls)) test ∙ ap (λ ms. l ∷ ms) later
+    by false h later = let all = later h in (ap (λ ks. l ∷ ks) all.0, all.1)
 
 -- where numbers rise, those behind and before one have other numbers
 rises-taken : (k : ℕ) (front behind : List Link) (l : Link) → l.connection ≡ k
@@ -90,9 +83,7 @@ rises-taken k [] behind l is rises =
     let test : (l.connection == k) ≡ true = grind (arith, nat_tests) in
     ap (λ b. cond (not b) (l ∷ without (λ (m : Link). m.connection == k) behind) (without (λ (m :
     Link). m.connection == k) behind)) test
-    ∙ greater-stay k behind (λ i d h.
-    let up : l.connection < (get_or behind i d).connection = rises zero (suc i) d (omega arith)
-    (omega (arith, h)) in omega (arith, up, is))
+    ∙ none-numbered k behind (subst (λ n. AreAbove n behind) is (above-first l behind rises))
 rises-taken k (m ∷ front) behind l is rises =
     let count : length (front ++ l ∷ behind) ≡ length front + length (l ∷ behind) =
     length-append front (l ∷ behind) in
@@ -132,5 +123,5 @@ pub takes-only : (k : ℕ) (o : Option Link) (old new : List Link)
     → o ≡ find (λ m. m.connection == k) old → Takes o old new → Rises old
     → new ≡ without (λ m. m.connection == k) old
 takes-only k None old new found same rises =
-    same ∙ sym (none-leaves (λ m. m.connection == k) old (sym found))
+    same ∙ sym (none-stays (λ m. m.connection == k) old (sym found)).0
 takes-only k (Some l) old new found taken rises = taken-only k old new l taken rises (sym found)

@@ -7,7 +7,7 @@ use Rattle.std.specs.List.{filter, find}
 use Rattle.gb_base.specs.declared.interface.Link.{Link}
 use Rattle.gb_formats.specs.Images.{Images, forgotten}
 use Rattle.gb_host.proofs.Leaving.{kept-left}
-use Rattle.gb_host.proofs.Rising.{found-passes}
+use Rattle.gb_host.proofs.Rising.{found-passes, none-stays}
 use Rattle.gb_host.specs.Changes.{IsTaken}
 use Rattle.gb_host.specs.Counts.{AreCounted}
 use Rattle.gb_host.specs.declared.cports.Cports.{Cports}
@@ -37,21 +37,9 @@ sought-next test x y z ls ms ks o l e some taken leaves sought = record {
       (sym (found-passes test ms l (sym e ∙ some)))
       ∙ sym (filter-append (λ k. not (test k)) taken.front (l ∷ taken.behind))
       ∙ ap (without test) (sym taken.old_is) ∙ sought.left;
-  counted = λ counted. kept-left (AreCounted y) (AreCounted z) ms ks l taken leaves (sought.counted counted);
+  counted = λ counted.
+      kept-left (AreCounted y) (AreCounted z) ms ks l taken leaves (sought.counted counted);
 }
-
--- where none passes the test, all stay
-none-stays : (test : Link → Bool) (ls : List Link) → find test ls ≡ None
-    → (without test ls ≡ ls) × (filter test ls ≡ [])
-none-stays test [] e = (refl, refl)
-none-stays test (l ∷ ls) e = by (test l) e (none-stays test ls)
-  where
-    by : (b : Bool) → cond b (Some l) (find test ls) ≡ None
-        → (find test ls ≡ None → (without test ls ≡ ls) × (filter test ls ≡ []))
-        → (cond (not b) (l ∷ without test ls) (without test ls) ≡ l ∷ ls)
-        × (cond b (l ∷ filter test ls) (filter test ls) ≡ [])
-    by true h later = absurd cc
-    by false h later = let all = later h in (ap (λ ks. l ∷ ks) all.0, all.1)
 
 -- at last none is there
 pub sought-over : (test : Link → Bool) (x y : Cports) (ls ms ks : List Link) (o : Option Link)

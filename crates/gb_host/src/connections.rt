@@ -28,10 +28,10 @@ use std::marker::Model;
 
 /// The connections to modules in the order in which they were made. A contract sees them alone. The
 /// rest is kept so that a look-up or a removal doesn't go over all of them: the CPorts of the
-/// application processor that they have, and the numbers of those at each far end, of each interface
-/// and that wait for each request. Where numbers don't rise, two have one far end or wait for one
-/// request, or no memory was found, far ends, numbers and requests aren't known, and are looked for
-/// one by one.
+/// application processor that they have, and the numbers of those at each far end, of each
+/// interface, and that wait for each request. Where numbers don't rise, two have one far end or
+/// wait for one request, or no memory was found, far ends, numbers and requests aren't known, and
+/// are looked for one by one.
 #[derive(Drop)]
 pub struct Connections {
     links: Links,

@@ -50,9 +50,9 @@ impl LinkChange {
 }
 
 /// The connections to modules in the order in which they were made. A contract sees them alone, and
-/// whether one more takes no memory. A connection that is gone leaves its place behind, and nothing moves. Once more
-/// than half of the places are left behind, these are given up together, so that a removal costs
-/// the others nothing.
+/// whether one more takes no memory. A connection that is gone leaves its place behind, and nothing
+/// moves. Once more than half of the places are left behind, these are given up together, so that a
+/// removal costs the others nothing.
 #[derive(Drop)]
 pub struct Links {
     places: Vec<Place>,

@@ -144,8 +144,8 @@ fn place_of(places: &[Place], rising: bool, connection: u64) -> Option<usize>
     Some(place)
 }
 
-/// The place with a number, where the numbers of all rise. Few are looked at, and four at most where
-/// no number is missing from the first to it, or from it to the last.
+/// The place with a number, where the numbers of all rise. Few are looked at, and four at most
+/// where no number is missing from the first to it, or from it to the last.
 #[inline(always)]
 fn place_rising(places: &[Place], connection: u64) -> Option<usize>
     ensures first { AllRise places.now → result
@@ -164,8 +164,8 @@ fn place_rising(places: &[Place], connection: u64) -> Option<usize>
     }
 }
 
-/// The place with a number, where the numbers of all rise. Two at most are looked at where no number
-/// from it to the last is missing.
+/// The place with a number, where the numbers of all rise. Two at most are looked at where no
+/// number from it to the last is missing.
 #[inline(never)]
 fn place_uncounted(places: &[Place], connection: u64) -> Option<usize>
     ensures first { AllRise places.now → result

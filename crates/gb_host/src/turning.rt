@@ -18,7 +18,7 @@ impl Host {
     /// Takes notice of something, and answers what is to be done, in order. An `Act::Make` stands
     /// directly before the `Act::Ask` for the same purpose, and its connection is pending until
     /// `made` is called. `Act::Ask` and `Act::Make` are followed by `awaits`, `unsent` and `made`,
-    /// which take no memory but for the acts of `unsent`.
+    /// which need no memory but for the acts of `unsent`.
     ///
     /// Interfaces are 2 to 31, CPorts of modules 0 to 4,095, those of the application processor 1
     /// to 4,095, device ids 2 to 31, and sizes are bytes. The requests are those of the Greybus

@@ -19,7 +19,8 @@ impl Host {
     ghost use Rattle.gb_host.specs.Stands.{IsPending, Stands, host_of};
 
     /// The request of a purpose was made under this number, and its sequence waits for it. The same
-    /// connection is pending. It takes no memory.
+    /// connection is pending. It needs no memory: where none is found, what waits is looked for one
+    /// by one from then on.
     pub fn awaits(&mut self, purpose: Purpose, number: u64)
         ensures step { (h : machine.Host) → Stands self.old h
             → Stands self.new (awaits purpose number h) }
@@ -29,7 +30,8 @@ impl Host {
     }
 
     /// The connection of a purpose, which is pending, was made under this number. Nothing changes
-    /// where none is pending. It takes no memory.
+    /// where none is pending. It needs no memory: where none is found, connections are looked for
+    /// one by one from then on.
     pub fn made(&mut self, purpose: Purpose, connection: u64)
         ensures step { (h : machine.Host) (ap protocol : ℕ) → Stands self.old h
             → IsPending ap protocol self.old

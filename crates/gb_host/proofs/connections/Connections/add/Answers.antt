@@ -14,7 +14,8 @@ invariant_of-self c =
     let groups' = c.add-then-add.new.self in
     indexed-added c.self.inside.cports c.take.new.self c.self.inside.ends c.add-named.new.self
     groups groups' c.self.inside.awaited c.self.inside.known c.rises_to-rises.result
-    c.add-named.result c.is_ok-there.result c.is_none.result ls c.add.new.self.items c.args.link (c.add.ensures.added c.if-add.true)
+    c.add-named.result c.is_ok-there.result c.is_none.result ls c.add.new.self.items c.args.link
+    (c.add.ensures.added c.if-add.true)
     c.self.invariant (c.take.ensures ls c.add.ensures.few) c.rises_to-rises.ensures
     (c.add-named.ensures ls)
     (λ there rises grouped. groups-added groups groups' ls c.args.link rises grouped

@@ -30,7 +30,8 @@ returns-clause-out c =
     (slice_set c.self.inside.places.items c.in_ok-place.place
     (record { link = c.index.result.now.link; there = false })) c.args.self.now.items c.place.result
     c.in_ok-place.place c.index.result.now
-    (record { link = c.index.result.now.link; there = false }) c.index.result.now.link c.as_slice.ensures.value
+    (record { link = c.index.result.now.link; there = false }) c.index.result.now.link
+    c.as_slice.ensures.value
     (ap (λ (x : LinkList). x.items) c.self.view_is)
     (c.place.ensures.first (λ says. subst AllRise (sym c.as_slice.ensures.value)
     (c.self.invariant says))) c.in_ok-place.was (ap (λ (h : Place). h.link) c.index.ensures)
