@@ -41,7 +41,7 @@ impl Awaited {
     }
 
     /// A connection waits for this from now on, where nothing else waits for the same request and
-    /// memory is found.
+    /// memory is found. Nothing is said at false.
     pub fn change(&mut self, link: Link, awaits: Option<(u64, SequenceStep)>) -> bool
         ensures { (front behind : List Link) → AreAwaited self.old (front ++ link ∷ behind)
             → result ≡ true → AreAwaited self.new (front ++ link_awaits awaits link ∷ behind) }
@@ -63,7 +63,8 @@ impl Awaited {
         }
     }
 
-    /// A connection more waits for a request, where nothing else does and memory is found.
+    /// A connection more waits for a request, where nothing else does and memory is found. Nothing
+    /// is said at false.
     fn come(&mut self, request: u64, connection: u64) -> bool
         ensures { (front behind : List Link) (l : Link) (step : SequenceStep)
             → l.connection ≡ connection → l.awaits ≡ Some (request, step)
