@@ -86,6 +86,152 @@ count-kept a test f same (l ∷ ls) = by (test l) (count-kept a test f same ls)
     by true later = ap (λ n. cond (n == a) (count_at a ls + 1) (count_at a ls)) (same l)
     by false later = ap (λ n. cond (l.ap == a) (n + 1) n) later
 
+-- ---- CPorts that are taken
+
+-- a count that isn't 0 is written, or that of CPort 0
+some-set : (xs : List ℕ) (i count a : ℕ) → i < length xs → (count ≡ 0 → i < 1) → 1 ≤ a
+    → 0 < get_or xs a 0 → 0 < get_or (set xs i count) a 0
+some-set xs i count a within some one was = by (a == i) refl
+  where
+    by : (b : Bool) → (a == i) ≡ b → 0 < get_or (set xs i count) a 0
+    by true e =
+        let same : a ≡ i = grind (arith, nat_tests) in
+        subst (λ n. 0 < n) (sym (ap (λ n. get_or (set xs i count) n 0) same
+        ∙ get_or-set_same xs i count 0 within)) (more (count == 0) refl same)
+      where
+        more : (b : Bool) → (count == 0) ≡ b → a ≡ i → 0 < count
+        more true z same =
+            let none : count ≡ 0 = grind (arith, nat_tests) in
+            let low = some none in absurd (omega (arith, low, same, one))
+        more false z same = grind (arith, nat_tests)
+    by false e =
+        let other : a ≢ i = λ same. absurd (grind (arith, nat_tests)) in
+        subst (λ n. 0 < n) (sym (get_or-set_other xs i a count 0 other)) was
+
+-- and so all that are taken stay so
+taken-set : (xs : List ℕ) (full : List Bool) (i count next : ℕ) → i < length xs
+    → (count ≡ 0 → i < 1) → AreTaken xs full next → AreTaken (set xs i count) full next
+taken-set xs full i count next within some taken = record {
+  before = λ a one below. some-set xs i count a within some one (taken.before a one below);
+  blocks = λ a one marked. some-set xs i count a within some one (taken.blocks a one marked);
+}
+
+-- the mark of a block is taken away
+unmarked : (full : List Bool) (block : ℕ) → get_or (set full block false) block false ≡ false
+unmarked full block = by (nat_lt block (length full)) refl
+  where
+    by : (b : Bool) → nat_lt block (length full) ≡ b
+        → get_or (set full block false) block false ≡ false
+    by true e =
+        let within : block < length full = grind (arith, nat_tests) in
+        get_or-set_same full block false false within
+    by false e =
+        let over : length full ≤ block = grind (arith, nat_tests) in
+        get_or_past (set full block false) block false
+        (subst (λ n. n ≤ block) (sym (length-set full block false)) over)
+
+-- a count falls to 0, and its block isn't known to be full
+taken-falls : (xs : List ℕ) (full : List Bool) (i block least new : ℕ) → block ≡ i / 64
+    → new ≤ least → new ≤ i
+    → AreTaken xs full least → AreTaken (set xs i 0) (set full block false) new
+taken-falls xs full i block least new at under most taken = record {
+  before = λ a one below.
+      let less : a < least = omega (arith, below, under) in
+      stays a (λ e. absurd (omega (arith, e, below, most))) (taken.before a one less);
+  blocks = λ a one marked. blocks a one marked (a / 64 == block) refl;
+}
+  where
+    stays : (a : ℕ) → a ≢ i → 0 < get_or xs a 0 → 0 < get_or (set xs i 0) a 0
+    stays a other some = subst (λ n. 0 < n) (sym (get_or-set_other xs i a 0 0 other)) some
+
+    blocks : (a : ℕ) → 1 ≤ a → get_or (set full block false) (a / 64) false ≡ true
+        → (b : Bool) → (a / 64 == block) ≡ b → 0 < get_or (set xs i 0) a 0
+    blocks a one marked true e =
+        let same : a / 64 ≡ block = grind (arith, nat_tests) in
+        absurd (true≢false (sym marked
+        ∙ ap (λ n. get_or (set full block false) n false) same ∙ unmarked full block))
+    blocks a one marked false e =
+        let other : a / 64 ≢ block = λ same. absurd (grind (arith, nat_tests)) in
+        stays a (λ same. other (ap (λ n. n / 64) same ∙ sym at)) (taken.blocks a one
+        (sym (get_or-set_other full block (a / 64) false false other) ∙ marked))
+
+-- ---- the least, as a count changes
+
+-- where a count rises
+pub least-rises : (xs ys : List ℕ) (full marks : List Bool) (i count least new : ℕ)
+    → i < length xs → 0 < count → new ≤ 4096
+    → (AreTaken (set xs i count) full least → AreTaken ys marks new)
+    → (new < 4096 → get_or ys new 0 ≡ 0) → (least ≤ 4096 → least ≤ new)
+    → IsLeast xs full least → IsLeast ys marks new
+least-rises xs ys full marks i count least new within some most passes here up was = record {
+  from-1 =
+      let one = was.from-1 in
+      let over = up was.within in omega (arith, one, over);
+  within = most;
+  taken = passes (taken-set xs full i count least within
+      (λ none. absurd (omega (arith, none, some))) was.taken);
+  here = here;
+}
+
+-- where a count falls to 0
+pub least-falls : (xs : List ℕ) (full : List Bool) (i block least new : ℕ) → i < length xs → 1 ≤ i
+    → block ≡ i / 64 → new ≤ least
+    → new ≤ i → (i < least → new ≡ i) → (least ≤ i → new ≡ least)
+    → IsLeast xs full least → IsLeast (set xs i 0) (set full block false) new
+least-falls xs full i block least new within one at under most falls stays was = record {
+  from-1 =
+      let from = was.from-1 in by-1 (nat_lt i least) refl from;
+  within =
+      let top = was.within in omega (arith, under, top);
+  taken = taken-falls xs full i block least new at under most was.taken;
+  here = λ below. here below (new == i) refl;
+}
+  where
+    by-1 : (b : Bool) → nat_lt i least ≡ b → 1 ≤ least → 1 ≤ new
+    by-1 true e from =
+        let less : i < least = grind (arith, nat_tests) in
+        let is = falls less in omega (arith, is, one)
+    by-1 false e from =
+        let over : least ≤ i = grind (arith, nat_tests) in
+        let is = stays over in omega (arith, is, from)
+
+    past : (b : Bool) → nat_lt i least ≡ b → new ≢ i → least ≤ i
+    past true e other =
+        let less : i < least = grind (arith, nat_tests) in absurd (other (falls less))
+    past false e other = grind (arith, nat_tests)
+
+    here : new < 4096 → (b : Bool) → (new == i) ≡ b → get_or (set xs i 0) new 0 ≡ 0
+    here below true e =
+        let same : new ≡ i = grind (arith, nat_tests) in
+        ap (λ n. get_or (set xs i 0) n 0) same ∙ get_or-set_same xs i 0 0 within
+    here below false e =
+        let other : new ≢ i = λ same. absurd (grind (arith, nat_tests)) in
+        let over : least ≤ i = past (nat_lt i least) refl other in
+        let is = stays over in
+        get_or-set_other xs i new 0 0 other
+        ∙ ap (λ n. get_or xs n 0) is ∙ was.here (omega (arith, below, is))
+
+-- where it doesn't
+pub least-stays : (xs : List ℕ) (full : List Bool) (i count least : ℕ) → i < length xs
+    → count ≡ get_or xs i 0 - 1 → (count ≡ 0 → i < 1)
+    → IsLeast xs full least → IsLeast (set xs i count) full least
+least-stays xs full i count least within is some was = record {
+  from-1 = was.from-1;
+  within = was.within;
+  taken = taken-set xs full i count least within some was.taken;
+  here = λ below. here below (least == i) refl;
+}
+  where
+    here : least < 4096 → (b : Bool) → (least == i) ≡ b → get_or (set xs i count) least 0 ≡ 0
+    here below true e =
+        let same : least ≡ i = grind (arith, nat_tests) in
+        let none : get_or xs i 0 ≡ 0 = ap (λ n. get_or xs n 0) (sym same) ∙ was.here below in
+        ap (λ n. get_or (set xs i count) n 0) same
+        ∙ get_or-set_same xs i count 0 within ∙ omega (arith, is, none)
+    here below false e =
+        let other : least ≢ i = λ same. absurd (grind (arith, nat_tests)) in
+        get_or-set_other xs i least count 0 other ∙ was.here below
+
 -- ---- what is kept
 
 -- a change of a connection keeps the counts
@@ -192,150 +338,6 @@ counted-comes x y ls l i v count at within few read sum is least counted =
     omega (arith, same, sum, below))
     (is ∙ ap (λ j. set x.counts.items j count) at)
     (least counted.least (omega (arith, sum))) counted
-
--- ---- what connections have all of
-
--- a count that isn't 0 is written, or that of CPort 0
-some-set : (xs : List ℕ) (i count a : ℕ) → i < length xs → (count ≡ 0 → i < 1) → 1 ≤ a
-    → 0 < get_or xs a 0 → 0 < get_or (set xs i count) a 0
-some-set xs i count a within some one was = by (a == i) refl
-  where
-    by : (b : Bool) → (a == i) ≡ b → 0 < get_or (set xs i count) a 0
-    by true e =
-        let same : a ≡ i = grind (arith, nat_tests) in
-        subst (λ n. 0 < n) (sym (ap (λ n. get_or (set xs i count) n 0) same
-        ∙ get_or-set_same xs i count 0 within)) (more (count == 0) refl same)
-      where
-        more : (b : Bool) → (count == 0) ≡ b → a ≡ i → 0 < count
-        more true z same =
-            let none : count ≡ 0 = grind (arith, nat_tests) in
-            let low = some none in absurd (omega (arith, low, same, one))
-        more false z same = grind (arith, nat_tests)
-    by false e =
-        let other : a ≢ i = λ same. absurd (grind (arith, nat_tests)) in
-        subst (λ n. 0 < n) (sym (get_or-set_other xs i a count 0 other)) was
-
-taken-set : (xs : List ℕ) (full : List Bool) (i count next : ℕ) → i < length xs
-    → (count ≡ 0 → i < 1) → AreTaken xs full next → AreTaken (set xs i count) full next
-taken-set xs full i count next within some taken = record {
-  before = λ a one below. some-set xs i count a within some one (taken.before a one below);
-  blocks = λ a one marked. some-set xs i count a within some one (taken.blocks a one marked);
-}
-
--- a block isn't known to be full any more, where no connection has one of its CPorts
-unmarked : (full : List Bool) (block : ℕ) → get_or (set full block false) block false ≡ false
-unmarked full block = by (nat_lt block (length full)) refl
-  where
-    by : (b : Bool) → nat_lt block (length full) ≡ b
-        → get_or (set full block false) block false ≡ false
-    by true e =
-        let within : block < length full = grind (arith, nat_tests) in
-        get_or-set_same full block false false within
-    by false e =
-        let over : length full ≤ block = grind (arith, nat_tests) in
-        get_or_past (set full block false) block false
-        (subst (λ n. n ≤ block) (sym (length-set full block false)) over)
-
-taken-falls : (xs : List ℕ) (full : List Bool) (i block least new : ℕ) → block ≡ i / 64
-    → new ≤ least → new ≤ i
-    → AreTaken xs full least → AreTaken (set xs i 0) (set full block false) new
-taken-falls xs full i block least new at under most taken = record {
-  before = λ a one below.
-      let less : a < least = omega (arith, below, under) in
-      stays a (λ e. absurd (omega (arith, e, below, most))) (taken.before a one less);
-  blocks = λ a one marked. blocks a one marked (a / 64 == block) refl;
-}
-  where
-    stays : (a : ℕ) → a ≢ i → 0 < get_or xs a 0 → 0 < get_or (set xs i 0) a 0
-    stays a other some = subst (λ n. 0 < n) (sym (get_or-set_other xs i a 0 0 other)) some
-
-    blocks : (a : ℕ) → 1 ≤ a → get_or (set full block false) (a / 64) false ≡ true
-        → (b : Bool) → (a / 64 == block) ≡ b → 0 < get_or (set xs i 0) a 0
-    blocks a one marked true e =
-        let same : a / 64 ≡ block = grind (arith, nat_tests) in
-        absurd (true≢false (sym marked
-        ∙ ap (λ n. get_or (set full block false) n false) same ∙ unmarked full block))
-    blocks a one marked false e =
-        let other : a / 64 ≢ block = λ same. absurd (grind (arith, nat_tests)) in
-        stays a (λ same. other (ap (λ n. n / 64) same ∙ sym at)) (taken.blocks a one
-        (sym (get_or-set_other full block (a / 64) false false other) ∙ marked))
-
--- ---- the least that none has
-
--- where a count rises
-pub least-rises : (xs ys : List ℕ) (full marks : List Bool) (i count least new : ℕ)
-    → i < length xs → 0 < count → new ≤ 4096
-    → (AreTaken (set xs i count) full least → AreTaken ys marks new)
-    → (new < 4096 → get_or ys new 0 ≡ 0) → (least ≤ 4096 → least ≤ new)
-    → IsLeast xs full least → IsLeast ys marks new
-least-rises xs ys full marks i count least new within some most passes here up was = record {
-  from-1 =
-      let one = was.from-1 in
-      let over = up was.within in omega (arith, one, over);
-  within = most;
-  taken = passes (taken-set xs full i count least within
-      (λ none. absurd (omega (arith, none, some))) was.taken);
-  here = here;
-}
-
--- where a count falls to 0
-pub least-falls : (xs : List ℕ) (full : List Bool) (i block least new : ℕ) → i < length xs → 1 ≤ i
-    → block ≡ i / 64 → new ≤ least
-    → new ≤ i → (i < least → new ≡ i) → (least ≤ i → new ≡ least)
-    → IsLeast xs full least → IsLeast (set xs i 0) (set full block false) new
-least-falls xs full i block least new within one at under most falls stays was = record {
-  from-1 =
-      let from = was.from-1 in by-1 (nat_lt i least) refl from;
-  within =
-      let top = was.within in omega (arith, under, top);
-  taken = taken-falls xs full i block least new at under most was.taken;
-  here = λ below. here below (new == i) refl;
-}
-  where
-    by-1 : (b : Bool) → nat_lt i least ≡ b → 1 ≤ least → 1 ≤ new
-    by-1 true e from =
-        let less : i < least = grind (arith, nat_tests) in
-        let is = falls less in omega (arith, is, one)
-    by-1 false e from =
-        let over : least ≤ i = grind (arith, nat_tests) in
-        let is = stays over in omega (arith, is, from)
-
-    past : (b : Bool) → nat_lt i least ≡ b → new ≢ i → least ≤ i
-    past true e other =
-        let less : i < least = grind (arith, nat_tests) in absurd (other (falls less))
-    past false e other = grind (arith, nat_tests)
-
-    here : new < 4096 → (b : Bool) → (new == i) ≡ b → get_or (set xs i 0) new 0 ≡ 0
-    here below true e =
-        let same : new ≡ i = grind (arith, nat_tests) in
-        ap (λ n. get_or (set xs i 0) n 0) same ∙ get_or-set_same xs i 0 0 within
-    here below false e =
-        let other : new ≢ i = λ same. absurd (grind (arith, nat_tests)) in
-        let over : least ≤ i = past (nat_lt i least) refl other in
-        let is = stays over in
-        get_or-set_other xs i new 0 0 other
-        ∙ ap (λ n. get_or xs n 0) is ∙ was.here (omega (arith, below, is))
-
--- where it doesn't
-pub least-stays : (xs : List ℕ) (full : List Bool) (i count least : ℕ) → i < length xs
-    → count ≡ get_or xs i 0 - 1 → (count ≡ 0 → i < 1)
-    → IsLeast xs full least → IsLeast (set xs i count) full least
-least-stays xs full i count least within is some was = record {
-  from-1 = was.from-1;
-  within = was.within;
-  taken = taken-set xs full i count least within some was.taken;
-  here = λ below. here below (least == i) refl;
-}
-  where
-    here : least < 4096 → (b : Bool) → (least == i) ≡ b → get_or (set xs i count) least 0 ≡ 0
-    here below true e =
-        let same : least ≡ i = grind (arith, nat_tests) in
-        let none : get_or xs i 0 ≡ 0 = ap (λ n. get_or xs n 0) (sym same) ∙ was.here below in
-        ap (λ n. get_or (set xs i count) n 0) same
-        ∙ get_or-set_same xs i count 0 within ∙ omega (arith, is, none)
-    here below false e =
-        let other : least ≢ i = λ same. absurd (grind (arith, nat_tests)) in
-        get_or-set_other xs i least count 0 other ∙ was.here below
 
 -- a count falls to 0 at CPort 0 alone
 pub either-some : (count ap i : ℕ) → i ≡ ap → ((count ≡ 0) × (ap < 1)) ⊎ (count ≢ 0)

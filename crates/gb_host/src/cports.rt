@@ -85,7 +85,8 @@ impl Cports {
     }
 
     /// The least CPort from this one to 4,095 that no connection has, or 4,096, where connections
-    /// have all from 1 to below this one. A block that is known to be full is passed over.
+    /// have all from 1 to below this one. A block that is known to be full is passed over, and one
+    /// that was looked through is known to be full.
     fn unused(&mut self, from: u16) -> u16
         ensures counts { self.new.counts.items ≡ self.old.counts.items }
         ensures within { result ≤ 4096 }
