@@ -1,7 +1,7 @@
 //! The CPorts of the application processor that connections have.
 
-ghost use Rattle.std.specs.Prelude.{◌≡◌, ◌==◌, ◌<◌, ◌≤◌, ◌∷◌, [], ◌++◌, ◌^◌, ℕ, IfOk, List};
-ghost use Rattle.std.specs.Prelude.{false, get_or, length, set};
+ghost use Rattle.std.specs.Prelude.{◌≡◌, ◌==◌, ◌<◌, ◌≤◌, ◌∷◌, [], ◌++◌, ◌*◌, ◌^◌, ℕ, IfOk};
+ghost use Rattle.std.specs.Prelude.{List, false, get_or, length, set};
 ghost use Rattle.std.specs.List.{list_any};
 ghost use Rattle.gb_base.specs.declared.interface.Link.{Link};
 ghost use Rattle.gb_host.specs.Counts.{AreCounted, AreTaken};
@@ -85,8 +85,7 @@ impl Cports {
     }
 
     /// The least CPort from this one to 4,095 that no connection has, or 4,096, where connections
-    /// have all from 1 to below this one. A block that is known to be full is passed over, and one
-    /// that was looked through is known to be full.
+    /// have all from 1 to below this one.
     fn unused(&mut self, from: u16) -> u16
         ensures counts { self.new.counts.items ≡ self.old.counts.items }
         ensures within { result ≤ 4096 }
@@ -95,11 +94,34 @@ impl Cports {
         ensures here { result < 4096 → get_or self.new.counts.items result 0 ≡ 0 }
         ensures from { from ≤ 4096 → from ≤ result }
     {
-        for block in from / BLOCK..BLOCKS {
+        let block = from / BLOCK;
+        if block >= BLOCKS {
+            return CPORTS_END;
+        }
+        for ap in from..(block + 1) * BLOCK {
+            if self.count(ap) == 0 {
+                return ap;
+            }
+        }
+        self.mark(block, true);
+        self.unused_in_blocks(block + 1)
+    }
+
+    /// The same from the first CPort of a block. A block that is known to be full is passed over,
+    /// and one that was looked through is known to be full.
+    fn unused_in_blocks(&mut self, first: u16) -> u16
+        ensures counts { self.new.counts.items ≡ self.old.counts.items }
+        ensures within { result ≤ 4096 }
+        ensures taken { AreTaken self.old.counts.items self.old.full.items (first * 64)
+            → AreTaken self.new.counts.items self.new.full.items result }
+        ensures here { result < 4096 → get_or self.new.counts.items result 0 ≡ 0 }
+        ensures from { first ≤ 64 → first * 64 ≤ result }
+    {
+        for block in first..BLOCKS {
             if self.is_full(block) {
                 continue;
             }
-            for ap in from.max(block * BLOCK)..(block + 1) * BLOCK {
+            for ap in block * BLOCK..(block + 1) * BLOCK {
                 if self.count(ap) == 0 {
                     return ap;
                 }
