@@ -1,17 +1,18 @@
 -- How many connections have each CPort, as connections come and go.
-use Rattle.std.proofs.Common.{◌≡◌, ◌≢◌, ◌==◌, ◌<◌, ◌≤◌, ◌+◌, ◌-◌, ◌||◌, ◌⊎◌, inl, inr, ℕ}
+use Rattle.std.proofs.Common.{◌≡◌, ◌≢◌, ◌==◌, ◌<◌, ◌≤◌, ◌+◌, ◌-◌, ◌/◌, ◌||◌, ◌⊎◌, inl, inr, ℕ}
 use Rattle.std.proofs.Common.{suc, Bool, true, false}
 use Rattle.std.proofs.Common.{cond, not, List, [], ◌∷◌, ◌++◌, Some, None, get_or, refl, sym, ap}
 use Rattle.std.proofs.Common.{◌∙◌, ◌^◌, arith, length, min, nat_lt, replicate, set, subst}
+use Rattle.std.proofs.lemmas.Bool.{true≢false}
 use Rattle.std.proofs.lemmas.Bool.Decides.{nat_tests}
-use Rattle.std.proofs.lemmas.List.{append-nil, get_or_default}
+use Rattle.std.proofs.lemmas.List.{append-nil, get_or_default, get_or_past}
 use Rattle.std.proofs.lemmas.List.{get_or-replicate, get_or-set_other, get_or-set_same, length-set}
 use Rattle.std.proofs.lemmas.List.{length-replicate}
 use Rattle.std.specs.List.{list_any}
 use Rattle.gb_base.specs.declared.interface.Link.{Link}
 use Rattle.gb_formats.proofs.FirstFree.{free-here, free-none}
 use Rattle.gb_host.proofs.Free.{free-past}
-use Rattle.gb_host.specs.Counts.{AreCounted, IsLeast, count_at}
+use Rattle.gb_host.specs.Counts.{AreCounted, AreTaken, IsLeast, count_at}
 use Rattle.gb_host.specs.declared.cports.Cports.{Cports}
 use Rattle.gb_machine.specs.Lists.{at_first, first_free}
 
@@ -85,6 +86,152 @@ count-kept a test f same (l ∷ ls) = by (test l) (count-kept a test f same ls)
     by true later = ap (λ n. cond (n == a) (count_at a ls + 1) (count_at a ls)) (same l)
     by false later = ap (λ n. cond (l.ap == a) (n + 1) n) later
 
+-- ---- CPorts that are taken
+
+-- a count that isn't 0 is written, or that of CPort 0
+some-set : (xs : List ℕ) (i count a : ℕ) → i < length xs → (count ≡ 0 → i < 1) → 1 ≤ a
+    → 0 < get_or xs a 0 → 0 < get_or (set xs i count) a 0
+some-set xs i count a within some one was = by (a == i) refl
+  where
+    by : (b : Bool) → (a == i) ≡ b → 0 < get_or (set xs i count) a 0
+    by true e =
+        let same : a ≡ i = grind (arith, nat_tests) in
+        subst (λ n. 0 < n) (sym (ap (λ n. get_or (set xs i count) n 0) same
+        ∙ get_or-set_same xs i count 0 within)) (more (count == 0) refl same)
+      where
+        more : (b : Bool) → (count == 0) ≡ b → a ≡ i → 0 < count
+        more true z same =
+            let none : count ≡ 0 = grind (arith, nat_tests) in
+            let low = some none in absurd (omega (arith, low, same, one))
+        more false z same = grind (arith, nat_tests)
+    by false e =
+        let other : a ≢ i = λ same. absurd (grind (arith, nat_tests)) in
+        subst (λ n. 0 < n) (sym (get_or-set_other xs i a count 0 other)) was
+
+-- and so all that are taken stay so
+taken-set : (xs : List ℕ) (full : List Bool) (i count next : ℕ) → i < length xs
+    → (count ≡ 0 → i < 1) → AreTaken xs full next → AreTaken (set xs i count) full next
+taken-set xs full i count next within some taken = record {
+  before = λ a one below. some-set xs i count a within some one (taken.before a one below);
+  blocks = λ a one marked. some-set xs i count a within some one (taken.blocks a one marked);
+}
+
+-- the mark of a block is taken away
+unmarked : (full : List Bool) (block : ℕ) → get_or (set full block false) block false ≡ false
+unmarked full block = by (nat_lt block (length full)) refl
+  where
+    by : (b : Bool) → nat_lt block (length full) ≡ b
+        → get_or (set full block false) block false ≡ false
+    by true e =
+        let within : block < length full = grind (arith, nat_tests) in
+        get_or-set_same full block false false within
+    by false e =
+        let over : length full ≤ block = grind (arith, nat_tests) in
+        get_or_past (set full block false) block false
+        (subst (λ n. n ≤ block) (sym (length-set full block false)) over)
+
+-- a count falls to 0, and its block isn't known to be full
+taken-falls : (xs : List ℕ) (full : List Bool) (i block least new : ℕ) → block ≡ i / 64
+    → new ≤ least → new ≤ i
+    → AreTaken xs full least → AreTaken (set xs i 0) (set full block false) new
+taken-falls xs full i block least new at under most taken = record {
+  before = λ a one below.
+      let less : a < least = omega (arith, below, under) in
+      stays a (λ e. absurd (omega (arith, e, below, most))) (taken.before a one less);
+  blocks = λ a one marked. blocks a one marked (a / 64 == block) refl;
+}
+  where
+    stays : (a : ℕ) → a ≢ i → 0 < get_or xs a 0 → 0 < get_or (set xs i 0) a 0
+    stays a other some = subst (λ n. 0 < n) (sym (get_or-set_other xs i a 0 0 other)) some
+
+    blocks : (a : ℕ) → 1 ≤ a → get_or (set full block false) (a / 64) false ≡ true
+        → (b : Bool) → (a / 64 == block) ≡ b → 0 < get_or (set xs i 0) a 0
+    blocks a one marked true e =
+        let same : a / 64 ≡ block = grind (arith, nat_tests) in
+        absurd (true≢false (sym marked
+        ∙ ap (λ n. get_or (set full block false) n false) same ∙ unmarked full block))
+    blocks a one marked false e =
+        let other : a / 64 ≢ block = λ same. absurd (grind (arith, nat_tests)) in
+        stays a (λ same. other (ap (λ n. n / 64) same ∙ sym at)) (taken.blocks a one
+        (sym (get_or-set_other full block (a / 64) false false other) ∙ marked))
+
+-- ---- the least, as a count changes
+
+-- where a count rises
+pub least-rises : (xs ys : List ℕ) (full marks : List Bool) (i count least new : ℕ)
+    → i < length xs → 0 < count → new ≤ 4096
+    → (AreTaken (set xs i count) full least → AreTaken ys marks new)
+    → (new < 4096 → get_or ys new 0 ≡ 0) → (least ≤ 4096 → least ≤ new)
+    → IsLeast xs full least → IsLeast ys marks new
+least-rises xs ys full marks i count least new within some most passes here up was = record {
+  from-1 =
+      let one = was.from-1 in
+      let over = up was.within in omega (arith, one, over);
+  within = most;
+  taken = passes (taken-set xs full i count least within
+      (λ none. absurd (omega (arith, none, some))) was.taken);
+  here = here;
+}
+
+-- where a count falls to 0
+pub least-falls : (xs : List ℕ) (full : List Bool) (i block least new : ℕ) → i < length xs → 1 ≤ i
+    → block ≡ i / 64 → new ≤ least
+    → new ≤ i → (i < least → new ≡ i) → (least ≤ i → new ≡ least)
+    → IsLeast xs full least → IsLeast (set xs i 0) (set full block false) new
+least-falls xs full i block least new within one at under most falls stays was = record {
+  from-1 =
+      let from = was.from-1 in by-1 (nat_lt i least) refl from;
+  within =
+      let top = was.within in omega (arith, under, top);
+  taken = taken-falls xs full i block least new at under most was.taken;
+  here = λ below. here below (new == i) refl;
+}
+  where
+    by-1 : (b : Bool) → nat_lt i least ≡ b → 1 ≤ least → 1 ≤ new
+    by-1 true e from =
+        let less : i < least = grind (arith, nat_tests) in
+        let is = falls less in omega (arith, is, one)
+    by-1 false e from =
+        let over : least ≤ i = grind (arith, nat_tests) in
+        let is = stays over in omega (arith, is, from)
+
+    past : (b : Bool) → nat_lt i least ≡ b → new ≢ i → least ≤ i
+    past true e other =
+        let less : i < least = grind (arith, nat_tests) in absurd (other (falls less))
+    past false e other = grind (arith, nat_tests)
+
+    here : new < 4096 → (b : Bool) → (new == i) ≡ b → get_or (set xs i 0) new 0 ≡ 0
+    here below true e =
+        let same : new ≡ i = grind (arith, nat_tests) in
+        ap (λ n. get_or (set xs i 0) n 0) same ∙ get_or-set_same xs i 0 0 within
+    here below false e =
+        let other : new ≢ i = λ same. absurd (grind (arith, nat_tests)) in
+        let over : least ≤ i = past (nat_lt i least) refl other in
+        let is = stays over in
+        get_or-set_other xs i new 0 0 other
+        ∙ ap (λ n. get_or xs n 0) is ∙ was.here (omega (arith, below, is))
+
+-- where it doesn't
+pub least-stays : (xs : List ℕ) (full : List Bool) (i count least : ℕ) → i < length xs
+    → count ≡ get_or xs i 0 - 1 → (count ≡ 0 → i < 1)
+    → IsLeast xs full least → IsLeast (set xs i count) full least
+least-stays xs full i count least within is some was = record {
+  from-1 = was.from-1;
+  within = was.within;
+  taken = taken-set xs full i count least within some was.taken;
+  here = λ below. here below (least == i) refl;
+}
+  where
+    here : least < 4096 → (b : Bool) → (least == i) ≡ b → get_or (set xs i count) least 0 ≡ 0
+    here below true e =
+        let same : least ≡ i = grind (arith, nat_tests) in
+        let none : get_or xs i 0 ≡ 0 = ap (λ n. get_or xs n 0) (sym same) ∙ was.here below in
+        ap (λ n. get_or (set xs i count) n 0) same
+        ∙ get_or-set_same xs i count 0 within ∙ omega (arith, is, none)
+    here below false e =
+        let other : least ≢ i = λ same. absurd (grind (arith, nat_tests)) in
+        get_or-set_other xs i least count 0 other ∙ was.here below
+
 -- ---- what is kept
 
 -- a change of a connection keeps the counts
@@ -139,22 +286,12 @@ comes-at : (x y : Cports) (ls : List Link) (l : Link) (count : ℕ)
     → l.ap < length x.counts.items → length ls < 2 ^ 63
     → (get_or x.counts.items l.ap 0 < 2 ^ 63 → count ≡ get_or x.counts.items l.ap 0 + 1)
     → y.counts.items ≡ set x.counts.items l.ap count
-    → y.least ≤ 4096
-    → ((a : ℕ) → x.least ≤ a → a < y.least → 0 < get_or y.counts.items a 0)
-    → (y.least < 4096 → get_or y.counts.items y.least 0 ≡ 0)
-    → (x.least ≤ 4096 → x.least ≤ y.least)
+    → IsLeast y.counts.items y.full.items y.least
     → AreCounted x ls → AreCounted y (ls ++ l ∷ [])
-comes-at x y ls l count within few sum is most used here from counted = record {
+comes-at x y ls l count within few sum is least counted = record {
   long = ap length is ∙ length-set x.counts.items l.ap count ∙ counted.long;
   each = each;
-  least = record {
-    from-1 =
-        let one = counted.least.from-1 in
-        let up = from counted.least.within in omega (arith, one, up);
-    within = most;
-    before = λ a one below. before a one below (nat_lt a x.least) refl;
-    here = here;
-  };
+  least = least;
 }
   where
     each : (a : ℕ) → a < 4096 → get_or y.counts.items a 0 ≡ count_at a (ls ++ l ∷ [])
@@ -185,30 +322,14 @@ comes-at x y ls l count within few sum is most used here from counted = record {
             ∙ ap (λ n. count_at a ls + n) (sym (count-other a l [] apart))
             ∙ sym (count-append a ls (l ∷ []))
 
-    before : (a : ℕ) → 1 ≤ a → a < y.least → (b : Bool) → nat_lt a x.least ≡ b
-        → 0 < get_or y.counts.items a 0
-    before a one below true e =
-        let less : a < x.least = grind (arith, nat_tests) in
-        let top = counted.least.within in
-        let inside : a < 4096 = omega (arith, less, top) in
-        let some = counted.least.before a one less in
-        let was = counted.each a inside in
-        let is' = each a inside in
-        let all = count-append a ls (l ∷ []) in
-        omega (arith, some, was, is', all)
-    before a one below false e =
-        let over : x.least ≤ a = grind (arith, nat_tests) in used a over below
-
 pub counted-comes : (x y : Cports) (ls : List Link) (l : Link) (i v count : ℕ) → i ≡ l.ap
     → i < length x.counts.items → length ls < 2 ^ 63 → v ≡ get_or x.counts.items i v
     → count ≡ min (v + 1) (2 ^ 64 - 1)
     → y.counts.items ≡ set x.counts.items i count
-    → y.least ≤ 4096
-    → ((a : ℕ) → x.least ≤ a → a < y.least → 0 < get_or y.counts.items a 0)
-    → (y.least < 4096 → get_or y.counts.items y.least 0 ≡ 0)
-    → (x.least ≤ 4096 → x.least ≤ y.least)
+    → (IsLeast x.counts.items x.full.items x.least → 0 < count
+    → IsLeast y.counts.items y.full.items y.least)
     → AreCounted x ls → AreCounted y (ls ++ l ∷ [])
-counted-comes x y ls l i v count at within few read sum is =
+counted-comes x y ls l i v count at within few read sum is least counted =
     let same : v ≡ get_or x.counts.items l.ap 0 =
     read ∙ get_or_default x.counts.items i v 0 within
     ∙ ap (λ j. get_or x.counts.items j 0) at in
@@ -216,82 +337,7 @@ counted-comes x y ls l i v count at within few read sum is =
     (λ low. let below : v < 2 ^ 63 = omega (arith, same, low) in
     omega (arith, same, sum, below))
     (is ∙ ap (λ j. set x.counts.items j count) at)
-
--- the least that none has, where a count falls to 0 or doesn't
-pub least-falls : (xs : List ℕ) (i least new : ℕ) → i < length xs → 1 ≤ i → new ≤ least
-    → new ≤ i → (i < least → new ≡ i) → (least ≤ i → new ≡ least)
-    → IsLeast xs least → IsLeast (set xs i 0) new
-least-falls xs i least new within one under most falls stays was = record {
-  from-1 =
-      let from = was.from-1 in by-1 (nat_lt i least) refl from;
-  within =
-      let top = was.within in omega (arith, under, top);
-  before = λ a from below.
-      let less : a < least = omega (arith, below, under) in
-      let other : a ≢ i = λ e. absurd (omega (arith, e, below, most)) in
-      subst (λ n. 0 < n) (sym (get_or-set_other xs i a 0 0 other)) (was.before a from less);
-  here = λ below. here below (new == i) refl;
-}
-  where
-    by-1 : (b : Bool) → nat_lt i least ≡ b → 1 ≤ least → 1 ≤ new
-    by-1 true e from =
-        let less : i < least = grind (arith, nat_tests) in
-        let is = falls less in omega (arith, is, one)
-    by-1 false e from =
-        let over : least ≤ i = grind (arith, nat_tests) in
-        let is = stays over in omega (arith, is, from)
-
-    past : (b : Bool) → nat_lt i least ≡ b → new ≢ i → least ≤ i
-    past true e other =
-        let less : i < least = grind (arith, nat_tests) in absurd (other (falls less))
-    past false e other = grind (arith, nat_tests)
-
-    here : new < 4096 → (b : Bool) → (new == i) ≡ b → get_or (set xs i 0) new 0 ≡ 0
-    here below true e =
-        let same : new ≡ i = grind (arith, nat_tests) in
-        ap (λ n. get_or (set xs i 0) n 0) same ∙ get_or-set_same xs i 0 0 within
-    here below false e =
-        let other : new ≢ i = λ same. absurd (grind (arith, nat_tests)) in
-        let over : least ≤ i = past (nat_lt i least) refl other in
-        let is = stays over in
-        get_or-set_other xs i new 0 0 other
-        ∙ ap (λ n. get_or xs n 0) is ∙ was.here (omega (arith, below, is))
-
-pub least-stays : (xs : List ℕ) (i count least : ℕ) → i < length xs
-    → count ≡ get_or xs i 0 - 1 → (count ≡ 0 → i < 1)
-    → IsLeast xs least → IsLeast (set xs i count) least
-least-stays xs i count least within is some was = record {
-  from-1 = was.from-1;
-  within = was.within;
-  before = λ a from below. before a from below (a == i) refl;
-  here = λ below. here below (least == i) refl;
-}
-  where
-    before : (a : ℕ) → 1 ≤ a → a < least → (b : Bool) → (a == i) ≡ b
-        → 0 < get_or (set xs i count) a 0
-    before a from below true e =
-        let same : a ≡ i = grind (arith, nat_tests) in
-        subst (λ n. 0 < n) (sym (ap (λ n. get_or (set xs i count) n 0) same
-        ∙ get_or-set_same xs i count 0 within)) (by (count == 0) refl same)
-      where
-        by : (b : Bool) → (count == 0) ≡ b → a ≡ i → 0 < count
-        by true z same =
-            let none : count ≡ 0 = grind (arith, nat_tests) in
-            let low = some none in absurd (omega (arith, low, same, from))
-        by false z same = grind (arith, nat_tests)
-    before a from below false e =
-        let other : a ≢ i = λ same. absurd (grind (arith, nat_tests)) in
-        subst (λ n. 0 < n) (sym (get_or-set_other xs i a count 0 other)) (was.before a from below)
-
-    here : least < 4096 → (b : Bool) → (least == i) ≡ b → get_or (set xs i count) least 0 ≡ 0
-    here below true e =
-        let same : least ≡ i = grind (arith, nat_tests) in
-        let none : get_or xs i 0 ≡ 0 = ap (λ n. get_or xs n 0) (sym same) ∙ was.here below in
-        ap (λ n. get_or (set xs i count) n 0) same
-        ∙ get_or-set_same xs i count 0 within ∙ omega (arith, is, none)
-    here below false e =
-        let other : least ≢ i = λ same. absurd (grind (arith, nat_tests)) in
-        get_or-set_other xs i least count 0 other ∙ was.here below
+    (least counted.least (omega (arith, sum))) counted
 
 -- a count falls to 0 at CPort 0 alone
 pub either-some : (count ap i : ℕ) → i ≡ ap → ((count ≡ 0) × (ap < 1)) ⊎ (count ≢ 0)
@@ -303,12 +349,12 @@ either-some count ap i at (inr some) none = absurd (some none)
 leaves-at : (x y : Cports) (front behind : List Link) (l : Link) (count : ℕ)
     → l.ap < length x.counts.items → count ≡ get_or x.counts.items l.ap 0 - 1
     → y.counts.items ≡ set x.counts.items l.ap count
-    → IsLeast (set x.counts.items l.ap count) y.least
+    → IsLeast (set x.counts.items l.ap count) y.full.items y.least
     → AreCounted x (front ++ l ∷ behind) → AreCounted y (front ++ behind)
 leaves-at x y front behind l count within less is least counted = record {
   long = ap length is ∙ length-set x.counts.items l.ap count ∙ counted.long;
   each = each;
-  least = subst (λ ns. IsLeast ns y.least) (sym is) least;
+  least = subst (λ ns. IsLeast ns y.full.items y.least) (sym is) least;
 }
   where
     each : (a : ℕ) → a < 4096 → get_or y.counts.items a 0 ≡ count_at a (front ++ behind)
@@ -340,8 +386,8 @@ leaves-at x y front behind l count within less is least counted = record {
 pub counted-leaves : (x y : Cports) (front behind : List Link) (l : Link) (i v count : ℕ)
     → i ≡ l.ap → i < length x.counts.items → v ≡ get_or x.counts.items i v → count ≡ v - 1
     → y.counts.items ≡ set x.counts.items i count
-    → (IsLeast x.counts.items x.least → count ≡ get_or x.counts.items i 0 - 1
-    → IsLeast (set x.counts.items i count) y.least)
+    → (IsLeast x.counts.items x.full.items x.least → count ≡ get_or x.counts.items i 0 - 1
+    → IsLeast (set x.counts.items i count) y.full.items y.least)
     → AreCounted x (front ++ l ∷ behind) → AreCounted y (front ++ behind)
 counted-leaves x y front behind l i v count at within read less is least counted =
     let zero : v ≡ get_or x.counts.items i 0 =
@@ -350,7 +396,8 @@ counted-leaves x y front behind l i v count at within read less is least counted
     leaves-at x y front behind l count (subst (λ j. j < length x.counts.items) at within)
     (here ∙ ap (λ j. get_or x.counts.items j 0 - 1) at)
     (is ∙ ap (λ j. set x.counts.items j count) at)
-    (subst (λ j. IsLeast (set x.counts.items j count) y.least) at (least counted.least here))
+    (subst (λ j. IsLeast (set x.counts.items j count) y.full.items y.least) at
+    (least counted.least here))
     counted
 
 -- ---- the least
@@ -369,7 +416,7 @@ least-past x ls u counted e =
       from,
       within,
     )) (omega (arith, from)) (λ a h below. one-has a ls (subst (λ n. 0 < n)
-    (counted.each a (omega (arith, below, within))) (least.before a h below)))
+    (counted.each a (omega (arith, below, within))) (least.taken.before a h below)))
 
 -- the least that none has is the first that no connection has
 pub least-free : (x : Cports) (ls : List Link) → AreCounted x ls → x.least < 4096
@@ -387,16 +434,33 @@ least-none x ls counted over =
     sym (least-past x ls (4096 - x.least) counted refl
     ∙ free-none (λ a. list_any (λ l. l.ap == a) ls) (4096 - x.least) x.least (omega (arith, over)))
 
+-- no block is known to be full at first
+none-marked : (m i : ℕ) → get_or (replicate m false) i false ≡ false
+none-marked m i = by (nat_lt i m) refl
+  where
+    by : (b : Bool) → nat_lt i m ≡ b → get_or (replicate m false) i false ≡ false
+    by true e =
+        let within : i < m = grind (arith, nat_tests) in get_or-replicate m i false false within
+    by false e =
+        let over : m ≤ i = grind (arith, nat_tests) in
+        get_or_past (replicate m false) i false
+        (subst (λ n. n ≤ i) (sym (length-replicate m false)) over)
+
 -- where no count was made, no connection has a CPort
-pub none-counted : (x : Cports) (n : ℕ) → n ≡ 4096 → x.counts.items ≡ replicate n 0
-    → x.least ≡ 1 → AreCounted x []
-none-counted x n all none least = record {
+pub none-counted : (x : Cports) (n m : ℕ) → n ≡ 4096 → x.counts.items ≡ replicate n 0
+    → x.full.items ≡ replicate m false → x.least ≡ 1 → AreCounted x []
+none-counted x n m all none marks least = record {
   long = ap length none ∙ length-replicate n 0 ∙ all;
   each = λ a below. unused a below;
   least = record {
     from-1 = omega (arith, least);
     within = omega (arith, least);
-    before = λ a from below. absurd (omega (arith, from, below, least));
+    taken = record {
+      before = λ a from below. absurd (omega (arith, from, below, least));
+      blocks = λ a from marked. absurd (true≢false (sym marked
+          ∙ ap (λ (bs : List Bool). get_or bs (a / 64) false) marks
+          ∙ none-marked m (a / 64)));
+    };
     here = λ below. unused x.least below;
   };
 }
@@ -405,16 +469,3 @@ none-counted x n all none least = record {
     unused a below =
         ap (λ (ns : List ℕ). get_or ns a 0) none
         ∙ get_or-replicate n a 0 0 (omega (arith, below, all))
-
--- one more has a connection
-pub used-next : (counts : List ℕ) (from n : ℕ)
-    → ((a : ℕ) → from ≤ a → a < n → 0 < get_or counts a 0) → 0 < get_or counts n 0
-    → (a : ℕ) → from ≤ a → a < n + 1 → 0 < get_or counts a 0
-used-next counts from n all last a h below = by (a == n) refl
-  where
-    by : (b : Bool) → (a == n) ≡ b → 0 < get_or counts a 0
-    by true e =
-        let same : n ≡ a = grind (arith, nat_tests) in
-        subst (λ m. 0 < get_or counts m 0) same last
-    by false e =
-        let less : a < n = grind (arith, nat_tests) in all a h less
