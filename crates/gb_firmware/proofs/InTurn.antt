@@ -1,8 +1,8 @@
 -- Loans in the order of their numbers, and by their connections and ids.
 use Rattle.std.proofs.Common.{◌≡◌, ◌≢◌, ◌<◌, ◌≤◌, ◌+◌, ◌==◌, ◌&&◌, ℕ, zero, suc, Bool, true}
 use Rattle.std.proofs.Common.{false, cond, not, Option, Some, None, IfSome, IsSome, is_some}
-use Rattle.std.proofs.Common.{option_map, List, [], ◌∷◌, ◌++◌, map, slice_get, find, refl, sym, ap, subst, ◌∙◌, arith}
-use Rattle.std.proofs.Common.{Ordering, Less, Equal, Greater, is_eq}
+use Rattle.std.proofs.Common.{option_map, List, [], ◌∷◌, ◌++◌, map, slice_get, find, refl, sym, ap}
+use Rattle.std.proofs.Common.{subst, ◌∙◌, arith, Ordering, Less, Equal, Greater, is_eq}
 use Rattle.std.proofs.lemmas.List.Elements.{All-filter, All-from_recursion, All-weaker}
 use Rattle.std.proofs.lemmas.List.Elements.{filter-append, filter_agree, recursion_from_All}
 use Rattle.std.proofs.lemmas.Bool.Decides.{nat_tests}

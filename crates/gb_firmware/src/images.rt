@@ -89,7 +89,8 @@ impl Images {
     }
 
     /// Serves a request that a module makes on a connection. An answer of few bytes takes no memory
-    /// where no image is lent by it. After want of memory all is as before.
+    /// where no image is lent by it. After want of memory all is as before. It also comes where so
+    /// many images were lent that one more loan has no number of 64 bits.
     pub fn serve(
         &mut self,
         connection: u64,

@@ -19,8 +19,8 @@ struct Lent {
 }
 
 /// The ids of connections under which images are lent. Each loan has a number, which counts those
-/// that were lent before it, and is found by its connection and its id. A contract sees the loans
-/// in the order in which they were lent.
+/// that were lent before it. It is found by its connection and its id, so no call goes over the
+/// loans of other connections. A contract sees the loans in the order in which they were lent.
 #[derive(Drop)]
 pub struct Loans {
     lent: BTreeMap<(u64, u8), Lent>,
