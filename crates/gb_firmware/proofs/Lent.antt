@@ -7,11 +7,12 @@ use Rattle.std.specs.List.{list_any, position_or_len}
 use Rattle.std.proofs.lemmas.Bool.Decides.{nat_tests}
 use Rattle.gb_base.specs.declared.served.Served.{Served}
 use Rattle.gb_formats.specs.FirmwareRecords.{FirmwareReply, firmware_reply_payload}
-use Rattle.gb_formats.specs.Images.{Image, Images, Loan, finds, find_step, forgotten, free_id}
+use Rattle.gb_formats.specs.Images.{Image, Images, Loan, finds, find_step, free_id}
 use Rattle.gb_formats.specs.Images.{image_of, is_loan, lends, release_step, replies}
 use Rattle.gb_formats.specs.Images.{tag_spelled, with_loan}
 use Rattle.gb_formats.specs.Lists.{without}
-use Rattle.gb_formats.specs.Results.{Step, answer_of}
+use Rattle.gb_formats.specs.Results.{Step, answer_of, nonexistent, refusal_of}
+use Rattle.gb_firmware.proofs.Kept.{none-without}
 
 -- ---- look-ups
 
@@ -87,24 +88,18 @@ images_of given loans = record { given = given; loans = loans }
 abbrev IsServed : Served → Images → Step Images → Type 0
 IsServed served after step = (served ≡ step.served) × (after ≡ step.after)
 
--- the ids of a connection are free
-pub forgets : (k : ℕ) (given : List Image) (old new : List Loan) (x : Images)
-    → images_of given old ≡ x → new ≡ without (λ l. l.connection == k) old
-    → images_of given new ≡ forgotten k x
-forgets k given old new x is e = ap (images_of given) e ∙ ap (forgotten k) is
-
--- an id that is in use is free
-pub releases : (k id : ℕ) (given : List Image) (old new : List Loan) (x : Images) (served : Served)
-    → images_of given old ≡ x → list_any (is_loan k id) old ≡ true
-    → new ≡ without (is_loan k id) old → served ≡ answer_of []
+-- an id isn't in use
+pub stays : (k id : ℕ) (given : List Image) (old new : List Loan) (x : Images) (served : Served)
+    → images_of given old ≡ x → list_any (is_loan k id) old ≡ false
+    → new ≡ without (is_loan k id) old → served ≡ refusal_of nonexistent
     → IsServed served (images_of given new)
     (release_step k id (list_any (is_loan k id) x.loans) x)
-releases k id given old new x served is lent e answer =
+stays k id given old new x served is free e answer =
     subst (λ y. IsServed served (images_of given new)
     (release_step k id (list_any (is_loan k id) y.loans) y)) is
     (subst (λ test. IsServed served (images_of given new)
-    (release_step k id test (images_of given old))) (sym lent)
-    (answer, ap (images_of given) e))
+    (release_step k id test (images_of given old))) (sym free)
+    (answer, ap (images_of given) (e ∙ none-without (is_loan k id) old free)))
 
 -- an image is lent under the least id that is free
 lends_step : (k id : ℕ) (field tag bytes : List ℕ) (x : Images)

@@ -1,2 +1,4 @@
 pub mod Bridged
+pub mod InTurn
+pub mod Kept
 pub mod Lent

@@ -1,17 +1,16 @@
 //! The firmware images of the application processor.
 
-ghost use Rattle.std.specs.Prelude.{◌≡◌, true, false, Some, None, Ok, [], ◌∷◌, ◌++◌, IfSome};
-ghost use Rattle.std.specs.Prelude.{IsOkAnd, MatchOption, OnErr, OnOk, drop, find, take};
+ghost use Rattle.std.specs.Prelude.{◌≡◌, true, false, Some, None, Ok, IfSome, IsOkAnd};
+ghost use Rattle.std.specs.Prelude.{MatchOption, drop, find, take};
 ghost use Rattle.std.specs.List.{list_any};
 ghost use Rattle.gb_bridge_payload.specs.Serving.{ServesAs};
 ghost use Rattle.gb_firmware.specs.Lending.{FewSucceed, PutsAs};
 ghost use Rattle.gb_formats.specs.FirmwareRecords as records;
 ghost use Rattle.gb_formats.specs.Images as formats;
-ghost use Rattle.gb_formats.specs.Lists.{first_free};
 ghost use Rattle.gb_formats.specs.Results.{answer_of};
 
 use crate::image::Image;
-use crate::loan::Loan;
+use crate::loans::Loans;
 use gb_base::{Bytes, OutOfMemory, Sequence, Served, Tag};
 use gb_bridge_payload::{
     FirmwareAsk, FirmwareReply, INVALID, MOST_PAYLOAD, NONEXISTENT, RETRY, answered, done,
@@ -50,7 +49,7 @@ impl From<OutOfMemory> for PutFault {
 pub struct Images {
     alloc: Global,
     given: Sequence<Image>,
-    loans: Vec<Loan>,
+    loans: Loans,
 }
 
 impl Model for Images {
@@ -58,7 +57,7 @@ impl Model for Images {
 
     ghost Value = { formats.Images };
 
-    ghost view = { λ x. record { given = x.given; loans = x.loans.items } };
+    ghost view = { λ x. record { given = x.given; loans = x.loans } };
 }
 
 impl Images {
@@ -69,7 +68,7 @@ impl Images {
         Ok(Images {
             alloc,
             given: Sequence::new(alloc),
-            loans: Vec::new(alloc),
+            loans: Loans::new(alloc),
         })
     }
 
@@ -90,7 +89,8 @@ impl Images {
     }
 
     /// Serves a request that a module makes on a connection. An answer of few bytes takes no memory
-    /// where no image is lent by it. After want of memory all is as before.
+    /// where no image is lent by it. After want of memory all is as before. It also comes where so
+    /// many images were lent that one more loan has no number of 64 bits.
     pub fn serve(
         &mut self,
         connection: u64,
@@ -116,7 +116,7 @@ impl Images {
     pub fn forget(&mut self, connection: u64)
         ensures { self.new ≡ formats.forgotten connection self.old }
     {
-        self.loans.retain(|loan| loan.connection != connection);
+        self.loans.forget(connection);
     }
 
     /// FIND of the tag that a field spells: its image is lent under the least id that is free.
@@ -134,15 +134,10 @@ impl Images {
         let Some(image) = image_in(self.given.items(), tag) else {
             return Ok(refused(self.alloc, NONEXISTENT));
         };
-        let Some(id) = free_id(&self.loans, connection) else {
+        let Some(id) = self.loans.free_id(connection) else {
             return Ok(refused(self.alloc, RETRY));
         };
-        let loan = Loan {
-            connection,
-            id,
-            tag: image.tag.copied(),
-        };
-        add(&mut self.loans, loan)?;
+        self.loans.lend(connection, id, image.tag.copied())?;
         Ok(lent(self.alloc, id, image.bytes.items().len()))
     }
 
@@ -171,11 +166,9 @@ impl Images {
             (list_any (formats.is_loan connection id) self.old.loans) self.old)
             self.old self.new (Ok result) }
     {
-        if !is_lent(&self.loans, connection, id) {
+        if !self.loans.free(connection, id) {
             return refused(self.alloc, NONEXISTENT);
         }
-        self.loans
-            .retain(|loan| loan.connection != connection || loan.id != id);
         done(self.alloc)
     }
 
@@ -184,8 +177,8 @@ impl Images {
         ensures { MatchOption result (formats.lent_bytes connection id self.now ≡ None)
             (λ bytes. formats.lent_bytes connection id self.now ≡ Some bytes.now) }
     {
-        let loan = loan_in(&self.loans, connection, id)?;
-        let image = image_in(self.given.items(), loan.tag.bytes())?;
+        let tag = self.loans.tag(connection, id)?;
+        let image = image_in(self.given.items(), tag.bytes())?;
         Some(image.bytes.items())
     }
 }
@@ -197,48 +190,6 @@ fn image_in<'a>(given: &'a [Image], tag: &[u8]) -> Option<&'a Image>
     ensures tag { IfSome result (λ image. image.now.tag ≡ tag.now) }
 {
     given.iter().find(|image| image.tag.bytes() == tag)
-}
-
-/// The first loan under an id of a connection.
-fn loan_in(loans: &[Loan], connection: u64, id: u8) -> Option<&Loan>
-    ensures { MatchOption result (find (formats.is_loan connection id) loans.now ≡ None)
-        (λ loan. find (formats.is_loan connection id) loans.now ≡ Some loan.now) }
-{
-    loans
-        .iter()
-        .find(|loan| loan.connection == connection && loan.id == id)
-}
-
-/// Whether an image is lent under an id of a connection.
-fn is_lent(loans: &[Loan], connection: u64, id: u8) -> bool
-    ensures { result ≡ list_any (formats.is_loan connection id) loans.now }
-{
-    loans
-        .iter()
-        .any(|loan| loan.connection == connection && loan.id == id)
-}
-
-/// An image is lent. After want of memory the loans are as before.
-fn add(loans: &mut Vec<Loan>, loan: Loan) -> Result<(), OutOfMemory>
-    ensures ok { OnOk result (loans.new.items ≡ loans.old.items ++ loan ∷ []) }
-    ensures err { OnErr result (loans.new.items ≡ loans.old.items) }
-{
-    loans.reserve(1)?;
-    loans.push_reserved(loan);
-    Ok(())
-}
-
-/// The least id of a connection from 1 to 255 that isn't in use.
-fn free_id(loans: &[Loan], connection: u64) -> Option<u8>
-    ensures { result
-        ≡ first_free (λ id. list_any (formats.is_loan connection id) loans.now) 255 1 }
-{
-    for id in 1..=255 {
-        if !is_lent(loans, connection, id) {
-            return Some(id);
-        }
-    }
-    None
 }
 
 /// The bytes before the first zero, None where there is none.

@@ -8,7 +8,7 @@ mod download;
 mod image;
 mod images;
 mod loader;
-mod loan;
+mod loans;
 mod loopback;
 
 pub use bridging::bridge;

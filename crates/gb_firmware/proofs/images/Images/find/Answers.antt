@@ -7,8 +7,8 @@ use Rattle.gb_formats.specs.Results.{answer_of}
 use Rattle.gb_firmware.proofs.Lent.{lends_more, lends_one}
 use Rattle.gb_firmware.proofs.images.Images.find.Goals as goal
 
-pub returns-in_err-add-clause-few : goal.returns-in_err-add-clause-few
-returns-in_err-add-clause-few c = λ few none.
+pub returns-in_err-lend-clause-few : goal.returns-in_err-lend-clause-few
+returns-in_err-lend-clause-few c = λ few none.
     let x = c.args.self.now in
     let tag = c.in-Some.tag.now in
     let image = c.in-Some-image_in.image.now in
@@ -34,6 +34,6 @@ returns-clause-step c =
     ∙ ap (λ bytes. answer_of (firmware_reply_payload
     (FirmwareReply.Find c.in-Some-free_id.id (length bytes))))
     (c.items-2.ensures ∙ ap (λ i. i.bytes) c.image.view_is))
-    (c.in_ok-add.ensures.ok
-    ∙ ap (λ t. c.self.inside.loans.items
+    (c.in_ok-lend.ensures.ok
+    ∙ ap (λ t. c.self.inside.loans
     ++ record { connection = c.args.connection; id = c.in-Some-free_id.id; tag = t } ∷ []) tagged)
